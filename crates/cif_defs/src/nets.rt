@@ -4,10 +4,13 @@ ghost use Rattle.std.specs.Prelude.{◌≡◌};
 use crate::lists::Listed;
 use crate::raw_module::Name;
 
+/// A net bit: the place of its net number among the net numbers of the module, which rise.
+pub type NetBit = u32;
+
 /// One bit that is read: a net bit, by its place among the net bits, or a constant.
 #[derive(Clone, Copy, Debug, Drop, PartialEq, Eq)]
 pub enum Src {
-    Bit(u32),
+    Bit(NetBit),
     Zero,
     One,
 }

@@ -1,0 +1,17 @@
+-- What the fields of a `Netlist` hold: the netlist of its raw module.
+use Rattle.std.specs.Prelude.{◌≡◌, true, Bool, List, Option}
+use Rattle.cif_defs.specs.Words.{Word}
+use Rattle.cif_defs.specs.Cells.{Cell}
+use Rattle.cif_defs.specs.Accepted.{netlist_of}
+use Rattle.cif_defs.specs.FirstForm.{fits_first_form}
+use Rattle.cif_defs.specs.declared.nets.Wire.{Wire}
+use Rattle.cif_defs.specs.declared.nets.Driver.{Driver}
+use Rattle.cif_defs.specs.declared.raw_module.Raw.{Raw}
+
+pub record Holds (raw : Raw) (inputs outputs : List Wire) (cells : List Cell) (drivers : List Driver) (initial : List Word) : Type 0 where
+  pub fits : fits_first_form raw ≡ true
+  pub same_inputs : inputs ≡ (netlist_of raw).inputs
+  pub same_outputs : outputs ≡ (netlist_of raw).outputs
+  pub same_cells : cells ≡ (netlist_of raw).cells
+  pub same_drivers : drivers ≡ (netlist_of raw).drivers
+  pub same_initial : initial ≡ (netlist_of raw).initial

@@ -1,0 +1,13 @@
+//! Cells and netlists: what a raw module says, once it is accepted.
+#![tactic(auto)]
+
+mod cell;
+mod netlist;
+
+pub use cell::{Cell, Digits, Given, Sources, Targets};
+pub use cif_defs::{
+    CellList, CellPort, Connection, Connections, Direction, Driver, Kind, Listed, Name, NetBit,
+    Param, ParamValue, Params, PortRow, PortWidth, Raw, RawBit, RawBits, RawCell, RawName,
+    RawNames, RawParam, RawPort, RawPorts, Src, Wire,
+};
+pub use netlist::Netlist;

@@ -1,0 +1,90 @@
+// Accepted netlists.
+ghost use Rattle.std.specs.Prelude.{◌≡◌, ◌<◌, ◌≤◌, length, get_or, [], true};
+ghost use Rattle.cif_defs.specs.Words.{bit};
+ghost use Rattle.cif_defs.specs.Accepted.{netlist_of};
+ghost use Rattle.cif_defs.specs.Netlist.{driver_of};
+ghost use Rattle.cif_defs.specs.FirstForm.{fits_first_form};
+
+use crate::cell::Cell;
+use cif_defs::{Driver, Listed, NetBit, Raw, Wire};
+use std::marker::Model;
+
+/// The netlist of a raw module that was accepted. Contracts see it as that module: all else is what the definitions
+/// say of it.
+#[derive(Debug, Drop)]
+pub struct Netlist {
+    raw: Raw,
+    inputs: Vec<Wire>,
+    outputs: Vec<Wire>,
+    cells: Vec<Cell>,
+    drivers: Vec<Driver>,
+    initial: Vec<Listed<bool>>,
+}
+
+impl Model for Netlist {
+    ghost use Rattle.cif_defs.specs.declared.raw_module.Raw.{Raw};
+
+    ghost Value = { Raw };
+
+    ghost use Rattle.cif_cells.specs.NetlistView.{Holds};
+
+    ghost view = { λ n. n.raw };
+
+    ghost invariant = { λ n. Holds n.raw n.inputs.items n.outputs.items n.cells.items n.drivers.items n.initial.items };
+}
+
+impl Netlist {
+    /// The module as it was read.
+    pub fn raw(&self) -> &Raw
+        ensures is { result.now ≡ self.now }
+        ensures accepted { fits_first_form self.now ≡ true }
+    {
+        &self.raw
+    }
+
+    /// The cells, in byte order of name.
+    pub fn cells(&self) -> &[Cell]
+        ensures { result.now ≡ (netlist_of self.now).cells }
+    {
+        &self.cells
+    }
+
+    /// The input ports, in byte order of name.
+    pub fn inputs(&self) -> &[Wire]
+        ensures { result.now ≡ (netlist_of self.now).inputs }
+    {
+        &self.inputs
+    }
+
+    /// The output ports, in byte order of name.
+    pub fn outputs(&self) -> &[Wire]
+        ensures { result.now ≡ (netlist_of self.now).outputs }
+    {
+        &self.outputs
+    }
+
+    /// How many net bits there are.
+    pub fn bits(&self) -> u32
+        ensures { result ≡ length (netlist_of self.now).drivers }
+    {
+        self.drivers.len() as u32
+    }
+
+    /// What drives a net bit.
+    pub fn driver(&self, bit: NetBit) -> Driver
+        requires { bit < length (netlist_of self.now).drivers }
+        ensures { result ≡ driver_of (netlist_of self.now) bit }
+    {
+        self.drivers[bit as usize]
+    }
+
+    /// Bit `index` of the word with which a cell starts; a bit past its end is 0.
+    pub fn initial(&self, cell: u32, index: u64) -> bool
+        requires { cell < length (netlist_of self.now).initial }
+        ensures { result ≡ bit (get_or (netlist_of self.now).initial cell []) index }
+    {
+        let word = &self.initial[cell as usize];
+        let bits = word.items();
+        index < bits.len() as u64 && bits[index as usize]
+    }
+}
