@@ -1,2 +1,3 @@
 pub mod CellView
+pub mod Checks
 pub mod NetlistView

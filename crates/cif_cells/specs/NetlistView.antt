@@ -1,15 +1,19 @@
 -- What the fields of a `Netlist` hold: the netlist of its raw module.
-use Rattle.std.specs.Prelude.{◌≡◌, true, Bool, List, Option}
+use Rattle.std.specs.Prelude.{◌≡◌, ◌≤◌, List, length}
 use Rattle.cif_defs.specs.Words.{Word}
 use Rattle.cif_defs.specs.Cells.{Cell}
 use Rattle.cif_defs.specs.Accepted.{netlist_of}
-use Rattle.cif_defs.specs.FirstForm.{fits_first_form}
+use Rattle.cif_defs.specs.Netlist.{IsWired}
 use Rattle.cif_defs.specs.declared.nets.Wire.{Wire}
 use Rattle.cif_defs.specs.declared.nets.Driver.{Driver}
 use Rattle.cif_defs.specs.declared.raw_module.Raw.{Raw}
+use Rattle.cif_cells.specs.Checks.{IsAccepted}
 
 pub record Holds (raw : Raw) (inputs outputs : List Wire) (cells : List Cell) (drivers : List Driver) (initial : List Word) : Type 0 where
-  pub fits : fits_first_form raw ≡ true
+  pub accepted : IsAccepted raw
+  pub wired : IsWired (netlist_of raw)
+  pub few_cells : length (netlist_of raw).cells ≤ 400000
+  pub few_bits : length (netlist_of raw).drivers ≤ 4194304
   pub same_inputs : inputs ≡ (netlist_of raw).inputs
   pub same_outputs : outputs ≡ (netlist_of raw).outputs
   pub same_cells : cells ≡ (netlist_of raw).cells

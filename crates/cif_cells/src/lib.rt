@@ -2,6 +2,7 @@
 #![tactic(auto)]
 
 mod cell;
+mod fault;
 mod netlist;
 
 pub use cell::{Cell, Digits, Given, Sources, Targets};
@@ -10,4 +11,5 @@ pub use cif_defs::{
     Param, ParamValue, Params, PortRow, PortWidth, Raw, RawBit, RawBits, RawCell, RawName,
     RawNames, RawParam, RawPort, RawPorts, Src, Wire,
 };
+pub use fault::{BuildFault, Spot};
 pub use netlist::Netlist;

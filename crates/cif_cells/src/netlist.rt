@@ -1,9 +1,9 @@
 // Accepted netlists.
-ghost use Rattle.std.specs.Prelude.{◌≡◌, ◌<◌, ◌≤◌, length, get_or, [], true};
+ghost use Rattle.std.specs.Prelude.{◌≡◌, ◌<◌, ◌≤◌, length, get_or, []};
 ghost use Rattle.cif_defs.specs.Words.{bit};
 ghost use Rattle.cif_defs.specs.Accepted.{netlist_of};
-ghost use Rattle.cif_defs.specs.Netlist.{driver_of};
-ghost use Rattle.cif_defs.specs.FirstForm.{fits_first_form};
+ghost use Rattle.cif_defs.specs.Netlist.{driver_of, IsWired};
+ghost use Rattle.cif_cells.specs.Checks.{IsAccepted};
 
 use crate::cell::Cell;
 use cif_defs::{Driver, Listed, NetBit, Raw, Wire};
@@ -37,14 +37,16 @@ impl Netlist {
     /// The module as it was read.
     pub fn raw(&self) -> &Raw
         ensures is { result.now ≡ self.now }
-        ensures accepted { fits_first_form self.now ≡ true }
+        ensures accepted { IsAccepted self.now }
+        ensures wired { IsWired (netlist_of self.now) }
     {
         &self.raw
     }
 
-    /// The cells, in byte order of name.
+    /// The cells, in byte order of name; at most 400,000.
     pub fn cells(&self) -> &[Cell]
-        ensures { result.now ≡ (netlist_of self.now).cells }
+        ensures are { result.now ≡ (netlist_of self.now).cells }
+        ensures few { length result.now ≤ 400000 }
     {
         &self.cells
     }
@@ -63,9 +65,10 @@ impl Netlist {
         &self.outputs
     }
 
-    /// How many net bits there are.
+    /// How many net bits there are; at most 4,194,304.
     pub fn bits(&self) -> u32
-        ensures { result ≡ length (netlist_of self.now).drivers }
+        ensures count { result ≡ length (netlist_of self.now).drivers }
+        ensures few { result ≤ 4194304 }
     {
         self.drivers.len() as u32
     }

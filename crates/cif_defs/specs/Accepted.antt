@@ -1,7 +1,6 @@
 -- The netlist that a raw module stands for.
-use Rattle.std.specs.Prelude.{ℕ, ◌+◌, ◌/◌, ◌%◌, ◌^◌, nat_lt, Bool, true, false, not, ◌&&◌, ◌==◌, List, [], ◌∷◌, ◌++◌, map, filter, get_or, reverse, codes, position, Option, Some, None, option_map, option_and_then, unwrap_or, pos, negsuc, if◌then◌else◌}
+use Rattle.std.specs.Prelude.{ℕ, ◌+◌, ◌/◌, ◌%◌, ◌^◌, nat_lt, Bool, true, false, not, ◌&&◌, ◌==◌, List, [], ◌∷◌, ◌++◌, map, filter, get_or, reverse, codes, position, Option, Some, None, option_map, option_to_list, unwrap_or, pos, negsuc, if◌then◌else◌}
 use Rattle.std.specs.List.{flat_map, filter_map}
-use Rattle.std.specs.Option.{option_or}
 use Rattle.cif_defs.specs.Words.{Word, bit, word, digit}
 use Rattle.cif_defs.specs.Kinds.{Role, combinational, plain_register, reset_register, memory, carried_over, role_of}
 use Rattle.cif_defs.specs.Table.{kind_of, parameters_of, is_table, is_mask, operands_of, outputs_of}
@@ -168,22 +167,22 @@ abbrev pub init_for_bit : ParamValue → ℕ → ℕ → RawBit → Option Bool
 init_for_bit v x i (Net y) = if y == x then init_at v i else None
 init_for_bit v x i _ = None
 
--- by the first of the name's bits, from place i on, for which it gives a digit
-abbrev pub init_for : ParamValue → ℕ → ℕ → List RawBit → Option Bool
-init_for v x i [] = None
-init_for v x i (b ∷ bs) = option_or (init_for_bit v x i b) (init_for v x (i + 1) bs)
+-- every digit that an `init` gives for a net number, from place i on
+abbrev pub init_digits : ParamValue → ℕ → ℕ → List RawBit → List Bool
+init_digits v x i [] = []
+init_digits v x i (b ∷ bs) = option_to_list (init_for_bit v x i b) ++ init_digits v x (i + 1) bs
 
-abbrev pub init_by_name : RawName → ℕ → Option Bool
-init_by_name n x = option_and_then (λ v. init_for v x 0 n.bits) (value_named (codes "init") n.attributes)
+abbrev pub init_digits_by : ℕ → List RawBit → Option ParamValue → List Bool
+init_digits_by x bits None = []
+init_digits_by x bits (Some v) = init_digits v x 0 bits
 
--- what the first name that gives one gives
-abbrev pub init_in : List RawName → ℕ → Option Bool
-init_in [] x = None
-init_in (n ∷ ns) x = option_or (init_by_name n x) (init_in ns x)
+-- every digit that the `init` of any name gives for a net number
+abbrev pub init_all : List RawName → ℕ → List Bool
+init_all names x = flat_map (λ (n : RawName). init_digits_by x n.bits (value_named (codes "init") n.attributes)) names
 
 -- the bit with which a register's output bit starts
 abbrev pub initial_bit : List RawName → RawBit → Bool
-initial_bit names (Net x) = unwrap_or (init_in names x) false
+initial_bit names (Net x) = get_or (init_all names x) 0 false
 initial_bit names _ = false
 
 abbrev pub no_bit : RawBit

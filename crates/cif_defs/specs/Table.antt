@@ -1,5 +1,5 @@
 -- The table of kinds: for each type of cell its text, its parameters, and its ports with their widths.
-use Rattle.std.specs.Prelude.{ℕ, ◌+◌, ◌*◌, ◌^◌, Bool, true, false, List, [], ◌∷◌, codes, bytes_eq, Option}
+use Rattle.std.specs.Prelude.{ℕ, ◌+◌, ◌*◌, ◌^◌, Bool, true, false, List, [], ◌∷◌, ◌++◌, codes, bytes_eq, Option, if◌then◌else◌}
 use Rattle.std.specs.List.{find}
 use Rattle.cif_defs.specs.declared.kinds.Kind.{Kind}
 use Rattle.cif_defs.specs.declared.kinds.Kind.TheVariants.{Not, Pos, Neg, And, Or, Xor, Xnor, Add, Sub, Mul, Div, Mod, DivFloor, ModFloor, Eq, Ne, Eqx, Nex, Lt, Le, Ge, Gt, ReduceAnd, ReduceOr, ReduceXor, ReduceXnor, ReduceBool, LogicNot, LogicAnd, LogicOr, Shl, Sshl, Shr, Sshr, Shift, Shiftx, Mux, Pmux, Bmux, Demux, Concat, Slice, Fa, Alu, ScopeInfo, Dff, Dffe, Sdff, Sdffe, Sdffce, Adff, Adffe, Mem}
@@ -271,6 +271,73 @@ clocks_of Adffe = row Clk One ∷ []
 clocks_of Mem = row WrClk (Of WrPorts) ∷ []
 clocks_of _ = []
 
+-- all ports of a kind, in the order in which they are checked: a register's clock comes first, a memory's last
+unfoldable pub ports_of : Kind → List PortRow
+ports_of Mem = operands_of Mem ++ outputs_of Mem ++ clocks_of Mem
+ports_of k = clocks_of k ++ operands_of k ++ outputs_of k
+
+-- ---- limits
+
+-- kinds that work on numbers, all of whose ports have at most 128 bits
+abbrev pub is_arithmetic : Kind → Bool
+is_arithmetic Add = true
+is_arithmetic Sub = true
+is_arithmetic Neg = true
+is_arithmetic Mul = true
+is_arithmetic Div = true
+is_arithmetic Mod = true
+is_arithmetic DivFloor = true
+is_arithmetic ModFloor = true
+is_arithmetic Alu = true
+is_arithmetic Lt = true
+is_arithmetic Le = true
+is_arithmetic Ge = true
+is_arithmetic Gt = true
+is_arithmetic _ = false
+
+abbrev pub number_limit : ℕ
+number_limit = 128
+
+abbrev pub plain_limit : ℕ
+plain_limit = 4096
+
+abbrev pub joined_limit : ℕ
+joined_limit = 65536
+
+abbrev pub shift_limit : CellPort → ℕ
+shift_limit B = number_limit
+shift_limit _ = plain_limit
+
+abbrev pub shiftx_limit : CellPort → ℕ
+shiftx_limit A = joined_limit
+shiftx_limit B = number_limit
+shiftx_limit _ = plain_limit
+
+abbrev pub joined_at : CellPort → CellPort → ℕ
+joined_at A A = joined_limit
+joined_at B B = joined_limit
+joined_at Y Y = joined_limit
+joined_at _ _ = plain_limit
+
+abbrev pub lut_limit : CellPort → ℕ
+lut_limit A = 12
+lut_limit _ = plain_limit
+
+-- the most bits that a port of a kind may have
+unfoldable pub width_limit : Kind → CellPort → ℕ
+width_limit Shl p = shift_limit p
+width_limit Sshl p = shift_limit p
+width_limit Shr p = shift_limit p
+width_limit Sshr p = shift_limit p
+width_limit Shift p = shift_limit p
+width_limit Shiftx p = shiftx_limit p
+width_limit Pmux p = joined_at B p
+width_limit Bmux p = joined_at A p
+width_limit Demux p = joined_at Y p
+width_limit LutKind p = lut_limit p
+width_limit Mem p = joined_limit
+width_limit k p = if is_arithmetic k then number_limit else plain_limit
+
 -- ---- what is built
 
 -- the kinds whose cells can be evaluated so far; any other is refused as if the table lacked it
@@ -279,4 +346,5 @@ is_built Not = true
 is_built And = true
 is_built Mux = true
 is_built Dff = true
+is_built ScopeInfo = true
 is_built _ = false
