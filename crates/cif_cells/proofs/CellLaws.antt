@@ -1,9 +1,8 @@
 -- What a cell gives for a parameter, found from front to back.
 use Rattle.std.specs.Prelude.{ℕ, zero, suc, ◌+◌, ◌<◌, ◌≡◌, true, false, List, [], ◌∷◌, length, get_or, drop}
-use Rattle.std.proofs.Common.{arith, ap, cond, drop-cons, ◌∙◌, sym, add-one}
+use Rattle.std.proofs.Common.{arith, ap, cond, add-one}
 use Rattle.cif_defs.specs.Kinds.{is_same_param}
 use Rattle.cif_defs.specs.Cells.{number_in, digits_in}
-use Rattle.cif_defs.specs.Words.{Word}
 use Rattle.cif_defs.specs.declared.kinds.Param.{Param}
 use Rattle.cif_cells.specs.CellView.{numbers_seen, digits_seen}
 use Rattle.cif_cells.specs.declared.cell.Given.{Given}

@@ -1,10 +1,11 @@
 -- The checks of a raw module, in their order: seven passes, each of which gives the first fault that it finds.
-use Rattle.std.specs.Prelude.{ℕ, ◌+◌, ◌*◌, nat_lt, nat_le, ◌≡◌, Bool, true, false, not, ◌&&◌, ◌||◌, ◌==◌, List, [], ◌∷◌, ◌++◌, map, filter, length, get_or, sum, Option, Some, None, option_and_then, option_map, unwrap_or, is_some, ℤ, pos, negsuc, if◌then◌else◌}
+use Rattle.std.specs.Prelude.{ℕ, ◌+◌, ◌*◌, nat_lt, ◌≡◌, Bool, true, false, not, ◌&&◌, ◌||◌, ◌==◌, List, [], ◌∷◌, ◌++◌, map, filter, length, sum, Option, Some, None, option_and_then, unwrap_or, is_some, if◌then◌else◌}
 use Rattle.std.specs.List.{list_any, list_all, flat_map, range_with_len}
-use Rattle.std.specs.Option.{option_or}
 use Rattle.cif_defs.specs.Words.{Word, bit}
-use Rattle.cif_defs.specs.Kinds.{Role, combinational, plain_register, reset_register, memory, carried_over, role_of}
-use Rattle.cif_defs.specs.Table.{kind_of, param_text, port_text, parameters_of, is_table, is_mask, operands_of, outputs_of, clocks_of, ports_of, width_by, width_limit, is_built}
+use Rattle.cif_defs.specs.Kinds.{role_of}
+use Rattle.cif_defs.specs.declared.kinds.Role.{Role}
+use Rattle.cif_defs.specs.declared.kinds.Role.TheVariants.{PlainRegister, ResetRegister, MemoryBlock}
+use Rattle.cif_defs.specs.Table.{kind_of, param_text, port_text, parameters_of, is_table, is_mask, operands_of, outputs_of, ports_of, width_by, width_limit, is_built}
 use Rattle.cif_defs.specs.RawModule.{value_named, below_limit_int, number_given, digits_given, connected, port_bits, output_bits, clock_bits, operand_bits, nets_in, net_numbers, is_net}
 use Rattle.cif_defs.specs.Accepted.{is_input, is_output, driven, driver_in, init_all}
 use Rattle.cif_defs.specs.declared.kinds.Kind.{Kind}
@@ -157,7 +158,7 @@ has_bad_form c =
     || has_digit false (mask_digits c WrClkEnable (number_or_0 c WrPorts)) || has_digit true (mask_digits c WrWideContinuation (number_or_0 c WrPorts))
 
 abbrev pub memory_form : RawCell → Role → Option BuildFault
-memory_form c memory = fault_if (has_bad_form c) (MemoryForm c.name)
+memory_form c MemoryBlock = fault_if (has_bad_form c) (MemoryForm c.name)
 memory_form c _ = None
 
 abbrev pub row_width : RawCell → PortRow → ℕ
@@ -168,7 +169,7 @@ cell_spot c r = CellPort c.name (port_text r.port)
 
 -- the joined ports of a memory may be empty
 abbrev pub may_be_empty : Role → Bool
-may_be_empty memory = true
+may_be_empty MemoryBlock = true
 may_be_empty _ = false
 
 abbrev pub zero_width : RawCell → Kind → PortRow → Option BuildFault
@@ -224,7 +225,7 @@ abbrev pub memory_size_by : RawCell → Option Kind → ℕ
 memory_size_by c None = 0
 memory_size_by c (Some k) = memory_size_as (role_of k) where
   memory_size_as : Role → ℕ
-  memory_size_as memory = number_or_0 c Size * number_or_0 c Width
+  memory_size_as MemoryBlock = number_or_0 c Size * number_or_0 c Width
   memory_size_as _ = 0
 
 abbrev pub memory_size : RawCell → ℕ
@@ -266,7 +267,7 @@ digit_number b = if b then 1 else 0
 
 -- the polarity of clock number i of a cell: a register's number, or the digit of a write port
 abbrev pub polarity_by : RawCell → Role → ℕ → ℕ
-polarity_by c memory i = digit_number (bit (digits_given c WrClkPolarity) i)
+polarity_by c MemoryBlock i = digit_number (bit (digits_given c WrClkPolarity) i)
 polarity_by c _ i = number_or_0 c ClkPolarity
 
 abbrev pub uses_from : RawCell → Role → ℕ → List RawBit → List ClockUse
@@ -349,8 +350,8 @@ abbrev pub gives_init : List RawName → ℕ → Bool → Bool
 gives_init names x d = list_any (λ e. if d then e else not e) (init_all names x)
 
 abbrev pub is_register : Role → Bool
-is_register plain_register = true
-is_register reset_register = true
+is_register PlainRegister = true
+is_register ResetRegister = true
 is_register _ = false
 
 abbrev pub register_numbers_by : RawCell → Option Kind → List ℕ

@@ -86,8 +86,14 @@ impl Cell {
         operands: Vec<Sources>,
         outputs: Vec<Targets>,
     ) -> Cell
-        ensures { result ≡ record { name = name; kind = kind; numbers = numbers_seen numbers.items;
-            digits = digits_seen digits.items; operands = operands.items; outputs = outputs.items } }
+        ensures { result ≡ record {
+          name = name;
+          kind = kind;
+          numbers = numbers_seen numbers.items;
+          digits = digits_seen digits.items;
+          operands = operands.items;
+          outputs = outputs.items;
+        } }
     {
         Cell {
             name,

@@ -4,6 +4,7 @@
 mod cell;
 mod fault;
 mod netlist;
+pub mod table;
 
 pub use cell::{Cell, Digits, Given, Sources, Targets};
 pub use cif_defs::{

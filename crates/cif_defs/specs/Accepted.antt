@@ -2,7 +2,9 @@
 use Rattle.std.specs.Prelude.{ℕ, ◌+◌, ◌/◌, ◌%◌, ◌^◌, nat_lt, Bool, true, false, not, ◌&&◌, ◌==◌, List, [], ◌∷◌, ◌++◌, map, filter, get_or, reverse, codes, position, Option, Some, None, option_map, option_to_list, unwrap_or, pos, negsuc, if◌then◌else◌}
 use Rattle.std.specs.List.{flat_map, filter_map}
 use Rattle.cif_defs.specs.Words.{Word, bit, word, digit}
-use Rattle.cif_defs.specs.Kinds.{Role, combinational, plain_register, reset_register, memory, carried_over, role_of}
+use Rattle.cif_defs.specs.Kinds.{role_of}
+use Rattle.cif_defs.specs.declared.kinds.Role.{Role}
+use Rattle.cif_defs.specs.declared.kinds.Role.TheVariants.{Combinational, PlainRegister, ResetRegister, MemoryBlock, CarriedOver}
 use Rattle.cif_defs.specs.Table.{kind_of, parameters_of, is_table, is_mask, operands_of, outputs_of}
 use Rattle.cif_defs.specs.RawModule.{value_named, number_given, digits_given, port_bits, output_bits, clock_bits, net_numbers}
 use Rattle.cif_defs.specs.Cells.{Cell, width, state_bits}
@@ -112,11 +114,11 @@ driven_by_outputs c p [] = []
 driven_by_outputs c p (bits ∷ rest) = driven_from (Output c p) 0 bits ++ driven_by_outputs c (p + 1) rest
 
 abbrev pub driven_by_role : ℕ → Role → RawCell → Kind → List (ℕ × Driver)
-driven_by_role c combinational cell k = driven_by_outputs c 0 (map (port_bits cell) (outputs_of k))
-driven_by_role c plain_register cell k = driven_from (Register c) 0 (output_bits cell)
-driven_by_role c reset_register cell k = driven_from (Register c) 0 (output_bits cell)
-driven_by_role c memory cell k = driven_from (λ i. Read c (i / unwrap_or (number_given cell Width) 0) (i % unwrap_or (number_given cell Width) 0)) 0 (output_bits cell)
-driven_by_role c carried_over cell k = []
+driven_by_role c Combinational cell k = driven_by_outputs c 0 (map (port_bits cell) (outputs_of k))
+driven_by_role c PlainRegister cell k = driven_from (Register c) 0 (output_bits cell)
+driven_by_role c ResetRegister cell k = driven_from (Register c) 0 (output_bits cell)
+driven_by_role c MemoryBlock cell k = driven_from (λ i. Read c (i / unwrap_or (number_given cell Width) 0) (i % unwrap_or (number_given cell Width) 0)) 0 (output_bits cell)
+driven_by_role c CarriedOver cell k = []
 
 abbrev pub driven_by_kind : ℕ → RawCell → Option Kind → List (ℕ × Driver)
 driven_by_kind c cell None = []
@@ -189,11 +191,11 @@ abbrev pub no_bit : RawBit
 no_bit = X
 
 abbrev pub initial_by : List RawName → RawCell → Cell → Role → Word
-initial_by names c cell plain_register = word (width cell) (λ i. initial_bit names (get_or (output_bits c) i no_bit))
-initial_by names c cell reset_register = word (width cell) (λ i. initial_bit names (get_or (output_bits c) i no_bit))
-initial_by names c cell memory = word (state_bits cell) (λ i. bit (digits_given c Init) i)
-initial_by names c cell combinational = []
-initial_by names c cell carried_over = []
+initial_by names c cell PlainRegister = word (width cell) (λ i. initial_bit names (get_or (output_bits c) i no_bit))
+initial_by names c cell ResetRegister = word (width cell) (λ i. initial_bit names (get_or (output_bits c) i no_bit))
+initial_by names c cell MemoryBlock = word (state_bits cell) (λ i. bit (digits_given c Init) i)
+initial_by names c cell Combinational = []
+initial_by names c cell CarriedOver = []
 
 -- the word with which a cell starts
 unfoldable pub initial_of : List ℕ → List RawName → RawCell → Word

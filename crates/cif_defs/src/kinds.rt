@@ -60,6 +60,21 @@ pub enum Kind {
     Mem,
 }
 
+/// The role of a kind of cell in a run.
+#[derive(Clone, Copy, Debug, Drop, PartialEq, Eq)]
+pub enum Role {
+    /// It gives its outputs from its operands in the same cycle.
+    Combinational,
+    /// It shows the word that it stores.
+    PlainRegister,
+    /// Its reset is asynchronous: while it is active the register shows its reset value at once.
+    ResetRegister,
+    /// It stores words at addresses, and reads them in the same cycle.
+    MemoryBlock,
+    /// It has no operands and no outputs.
+    CarriedOver,
+}
+
 /// A parameter of a cell: `AWidth` is `A_WIDTH`.
 #[derive(Clone, Copy, Debug, Drop, PartialEq, Eq)]
 pub enum Param {

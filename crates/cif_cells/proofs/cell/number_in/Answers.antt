@@ -1,4 +1,4 @@
-use Rattle.std.proofs.Common.{arith, sym, ◌∙◌}
+use Rattle.std.proofs.Common.{sym, ◌∙◌}
 use Rattle.cif_cells.proofs.CellLaws.{number_at, number_past}
 use Rattle.cif_cells.proofs.cell.number_in.Goals as goal
 
