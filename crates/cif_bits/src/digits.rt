@@ -1,6 +1,6 @@
 // Bits from and to numbers and texts.
 
-ghost use Rattle.std.specs.Prelude.{◌≡◌, ◌≤◌, length, position, IfOk};
+ghost use Rattle.std.specs.Prelude.{◌≡◌, ◌<◌, ◌≤◌, ◌^◌, length, position, IfOk};
 ghost use Rattle.cif_defs.specs.Words.{number, word_of};
 ghost use Rattle.cif_defs.specs.WordText.{text_of, word_of_text, is_no_digit};
 
@@ -21,12 +21,13 @@ pub fn number_bits(alloc: Global, width: u32, number: u128) -> Result<Vec<bool>,
 /// The number whose binary digits the bits are.
 pub fn bits_number(bits: &[bool]) -> u128
     requires { length bits.now ≤ 128 }
-    ensures { result ≡ number bits.now }
+    ensures value { result ≡ number bits.now }
+    ensures below { result < 2 ^ length bits.now }
 {
     let mut total = 0u128;
     for i in 0..bits.len() {
         if bits[i] {
-            total |= 1 << i;
+            total += 1 << i;
         }
     }
     total
@@ -36,7 +37,8 @@ pub fn bits_number(bits: &[bool]) -> u128
 pub fn first_bad(text: &[u8]) -> Option<usize>
     ensures { result ≡ position is_no_digit text.now }
 {
-    text.iter().position(|byte| !(*byte == b'0' || *byte == b'1'))
+    text.iter()
+        .position(|byte| !(*byte == b'0' || *byte == b'1'))
 }
 
 /// The bits of a text, whose first byte is the highest.

@@ -1,7 +1,7 @@
 -- Laws of the text of a word.
-use Rattle.std.specs.Prelude.{ℕ, ◌-◌, ◌<◌, ◌≡◌, ◌==◌, Bool, true, false, List, length, get_or, map, reverse, position, Option, None, Some, refl, nat_lt}
+use Rattle.std.specs.Prelude.{ℕ, ◌-◌, ◌<◌, ◌≡◌, ◌==◌, Bool, true, false, List, length, get_or, reverse, position, None, Some, refl, nat_lt}
 use Rattle.std.specs.List.{position_or_len}
-use Rattle.std.proofs.Common.{arith, sym, ap, ◌∙◌, cond, inl, inr}
+use Rattle.std.proofs.Common.{arith, ap, ◌∙◌, cond, inl, inr}
 use Rattle.std.proofs.lemmas.Bool.Decides.{nat_tests}
 use Rattle.std.proofs.lemmas.List.{length-reverse, length-map, get_or-map, get_or-reverse, get_or_default, same_lists}
 use Rattle.std.proofs.lemmas.List.Sums.{fails_before_first, position_or_len_is}
@@ -41,11 +41,11 @@ digit_byte b h = grind (arith, nat_tests)
 pub word_of_text-text_of : (w : Word) → word_of_text (text_of w) ≡ w
 word_of_text-text_of w = same_words _ _ (length-word_of_text (text_of w) ∙ length-text_of w)
     (λ i h. let inside : i < length w = omega (arith, length-word_of_text (text_of w), length-text_of w) in
-      let back : length w - 1 - (length (text_of w) - 1 - i) ≡ i = omega (arith, length-text_of w) in
-      bit-word_of_text (text_of w) i 48 (omega (arith, length-text_of w))
-      ∙ ap (λ b. b == 49) (get_or-text_of w (length (text_of w) - 1 - i) 48 (omega (arith, length-text_of w)))
-      ∙ ap (λ k. byte_of_bit (bit w k) == 49) back
-      ∙ bit_of_byte (bit w i))
+    let back : length w - 1 - (length (text_of w) - 1 - i) ≡ i = omega (arith, length-text_of w) in
+    bit-word_of_text (text_of w) i 48 (omega (arith, length-text_of w))
+    ∙ ap (λ b. b == 49) (get_or-text_of w (length (text_of w) - 1 - i) 48 (omega (arith, length-text_of w)))
+    ∙ ap (λ k. byte_of_bit (bit w k) == 49) back
+    ∙ bit_of_byte (bit w i))
 
 -- where no byte fails, none is found
 none_found : (text : List ℕ) → ((k : ℕ) → k < length text → is_no_digit (get_or text k 48) ≡ false) → position is_no_digit text ≡ None
@@ -54,16 +54,15 @@ none_found text h =
     let past : nat_lt (position_or_len is_no_digit text) (length text) ≡ false = grind (arith, nat_tests) in
     ap (λ b. cond b (Some (position_or_len is_no_digit text)) None) past
 
-
 -- each byte of a text in which none fails is a digit
 pub each_is_digit : (text : List ℕ) → position is_no_digit text ≡ None → (k : ℕ) → k < length text → is_no_digit (get_or text k 48) ≡ false
 each_is_digit text h k l = elim (le_or_lt (position_or_len is_no_digit text) (length text)) [
   | inl within ↦ absurd (
-    let before : nat_lt (position_or_len is_no_digit text) (length text) ≡ true = grind (arith, nat_tests) in
-    let found : position is_no_digit text ≡ Some (position_or_len is_no_digit text) = ap (λ b. cond b (Some (position_or_len is_no_digit text)) None) before in
-    cc)
+      let before : nat_lt (position_or_len is_no_digit text) (length text) ≡ true = grind (arith, nat_tests) in
+      let found : position is_no_digit text ≡ Some (position_or_len is_no_digit text) = ap (λ b. cond b (Some (position_or_len is_no_digit text)) None) before in
+      cc)
   | inr past ↦ fails_before_first is_no_digit text k 48 (omega arith)
-  ]
+]
 
 pub position-text_of : (w : Word) → position is_no_digit (text_of w) ≡ None
 position-text_of w = none_found (text_of w)
@@ -72,9 +71,9 @@ position-text_of w = none_found (text_of w)
 pub text_of-word_of_text : (text : List ℕ) → position is_no_digit text ≡ None → text_of (word_of_text text) ≡ text
 text_of-word_of_text text digits = same_lists _ _ (length-text_of (word_of_text text) ∙ length-word_of_text text)
     (λ k d h. let inside : k < length text = omega (arith, length-text_of (word_of_text text), length-word_of_text text) in
-      let back : length text - 1 - (length (word_of_text text) - 1 - k) ≡ k = omega (arith, length-word_of_text text) in
-      get_or-text_of (word_of_text text) k d (omega (arith, length-word_of_text text))
-      ∙ ap byte_of_bit (bit-word_of_text text (length (word_of_text text) - 1 - k) 48 (omega (arith, length-word_of_text text)))
-      ∙ ap (λ j. byte_of_bit (get_or text j 48 == 49)) back
-      ∙ digit_byte (get_or text k 48) (each_is_digit text digits k inside)
-      ∙ get_or_default text k 48 d inside)
+    let back : length text - 1 - (length (word_of_text text) - 1 - k) ≡ k = omega (arith, length-word_of_text text) in
+    get_or-text_of (word_of_text text) k d (omega (arith, length-word_of_text text))
+    ∙ ap byte_of_bit (bit-word_of_text text (length (word_of_text text) - 1 - k) 48 (omega (arith, length-word_of_text text)))
+    ∙ ap (λ j. byte_of_bit (get_or text j 48 == 49)) back
+    ∙ digit_byte (get_or text k 48) (each_is_digit text digits k inside)
+    ∙ get_or_default text k 48 d inside)
