@@ -4,6 +4,8 @@
 mod digits;
 mod faults;
 mod lists;
+#[cfg(test)]
+mod tests;
 
 ghost use Rattle.std.specs.Prelude.{◌≡◌, ◌+◌, ◌-◌, ◌<◌, ◌≤◌, ◌^◌, ◌&&◌, ◌||◌, ◌↔◌, not, length, get_or, nat_le, slice_set, position, None, IfOk, IfErr, IsOk, IsTrue};
 ghost use Rattle.cif_defs.specs.Words.{bit, word, xor, zeros, extend, number, word_of, is_all_ones, has_one, parity};
