@@ -1,4 +1,8 @@
-// Words of bits: what a wire, a constant or a register holds.
+//! Words of bits: what a wire, a constant or a register holds.
+//!
+//! Contracts see a `Bits` as the list of its bits, lowest first, and each call as an operation on
+//! such lists. A call that takes `alloc` may answer want of memory, and changes nothing then. The
+//! other calls take no memory. No call takes longer than a walk over its words.
 #![tactic(auto)]
 
 mod digits;
@@ -85,6 +89,7 @@ impl Bits {
         Bits { bits }
     }
 
+    /// Another word of the same bits.
     pub fn copy(&self, alloc: Global) -> Result<Bits, NoMemory>
         ensures { IfOk result (λ w. w ≡ self.now) }
     {
@@ -111,6 +116,7 @@ impl Bits {
         &self.bits
     }
 
+    /// The bit at a place.
     pub fn get(&self, index: u32) -> bool
         requires { index < length self.now }
         ensures { result ≡ bit self.now index }
@@ -152,6 +158,7 @@ impl Bits {
 
 /// Work on each bit, and on all bits.
 impl Bits {
+    /// The conjunction at each place of two words of one width.
     #[tactic(auto, using(cif_defs::proofs::WordLaws::words))]
     pub fn and(&self, alloc: Global, other: &Bits) -> Result<Bits, NoMemory>
         requires { length other.now ≡ length self.now }
@@ -163,6 +170,7 @@ impl Bits {
         Ok(Bits { bits })
     }
 
+    /// The disjunction at each place of two words of one width.
     #[tactic(auto, using(cif_defs::proofs::WordLaws::words))]
     pub fn or(&self, alloc: Global, other: &Bits) -> Result<Bits, NoMemory>
         requires { length other.now ≡ length self.now }
@@ -174,6 +182,7 @@ impl Bits {
         Ok(Bits { bits })
     }
 
+    /// Whether exactly one bit is 1, at each place of two words of one width.
     #[tactic(auto, using(cif_defs::proofs::WordLaws::words))]
     pub fn xor(&self, alloc: Global, other: &Bits) -> Result<Bits, NoMemory>
         requires { length other.now ≡ length self.now }
@@ -185,6 +194,7 @@ impl Bits {
         Ok(Bits { bits })
     }
 
+    /// The complement of each bit.
     #[tactic(auto, using(cif_defs::proofs::WordLaws::words))]
     pub fn not(&self, alloc: Global) -> Result<Bits, NoMemory>
         ensures { IfOk result (λ w. w ≡ word (length self.now) (λ i. not (bit self.now i))) }
