@@ -1,11 +1,10 @@
 -- Numbers and integers modulo a power of two.
-use Rattle.std.specs.Prelude.{ℕ, zero, suc, ◌+◌, ◌-◌, ◌*◌, ◌/◌, ◌%◌, ◌^◌, ◌<◌, ◌≤◌, ◌≡◌, Bool, true, false, bit_and, ℤ, pos, negsuc, neg_ℤ, ◌+ℤ◌, ◌-ℤ◌, refl}
+use Rattle.std.specs.Prelude.{ℕ, ◌+◌, ◌-◌, ◌*◌, ◌/◌, ◌%◌, ◌^◌, ◌<◌, ◌≤◌, ◌≡◌, Bool, true, false, ℤ, pos, negsuc, ◌-ℤ◌, refl}
 use Rattle.std.specs.Int.{from_bool}
 use Rattle.std.proofs.Common.{arith, sym, ap, ◌∙◌, inl, inr}
 use Rattle.std.proofs.lemmas.Int.{ints}
-use Rattle.std.proofs.lemmas.Nat.{and_mask, div_below, mod-pow-add, mod_low, pow-add, pow_pos}
+use Rattle.std.proofs.lemmas.Nat.{div_below, mod-pow-add, mod_low, pow-add, pow_pos}
 use Rattle.std.proofs.lemmas.Nat.Bits.{ones_shr}
-use Rattle.std.proofs.Math.IntN.{+ℤ_idl}
 use Rattle.std.proofs.Math.Nat.{add-mod_right, div-add-mod, mod-add-mod, mod-eq_of_lt, mod-lt}
 use Rattle.cif_defs.specs.Words.{bit_value}
 use Rattle.cif_defs.proofs.WordLaws.{le_or_lt}

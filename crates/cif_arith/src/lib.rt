@@ -5,6 +5,9 @@
 //! bit is 1. No call takes memory, and none refuses.
 #![tactic(auto)]
 
+mod division;
+mod integer;
 mod sums;
 
+pub use division::{div, div_floor, less, mod_floor, modulo};
 pub use sums::{AluOut, add, alu, mul, neg, sub};
