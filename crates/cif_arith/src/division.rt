@@ -1,11 +1,15 @@
-// Divisions and the order of numbers that may be signed.
+// Divisions of numbers that may be signed.
 
-ghost use Rattle.std.specs.Prelude.{◌≡◌, ◌^◌, ◌<◌, ◌≤◌, int_div, int_rem, int_lt};
+ghost use Rattle.std.specs.Prelude.{◌≡◌, ◌^◌, ◌<◌, ◌≤◌, int_div, int_rem};
 ghost use Rattle.cif_defs.specs.Meanings.{floor_div, floor_rem};
-ghost use Rattle.cif_arith.specs.Numbers.{division, integer_of};
+ghost use Rattle.cif_arith.specs.Numbers.{division};
 
-use crate::integer::{Integer, is_negative};
+use crate::integer::Integer;
 
+/// What `$div` gives: the quotient rounded toward zero, as IEEE 1364 has `/`, modulo `2^width`.
+///
+/// The width is 1 to 128 bits, and both operands are numbers of that width. A zero divisor gives 0. The least signed
+/// number divided by -1 gives itself, since its negative is the same modulo `2^width`.
 pub fn div(width: u32, signed: bool, a: u128, b: u128) -> u128
     requires some { 1 ≤ width }
     requires limit { width ≤ 128 }
@@ -20,6 +24,9 @@ pub fn div(width: u32, signed: bool, a: u128, b: u128) -> u128
     Integer::new(width, signed, a).quotient(&divisor).residue(width)
 }
 
+/// What `$mod` gives: the remainder of `div`, which has the dividend's sign, as IEEE 1364 has `%`, modulo `2^width`.
+///
+/// The width is 1 to 128 bits, and both operands are numbers of that width. A zero divisor gives 0.
 pub fn modulo(width: u32, signed: bool, a: u128, b: u128) -> u128
     requires some { 1 ≤ width }
     requires limit { width ≤ 128 }
@@ -34,6 +41,9 @@ pub fn modulo(width: u32, signed: bool, a: u128, b: u128) -> u128
     Integer::new(width, signed, a).remainder(&divisor).residue(width)
 }
 
+/// What `$divfloor` gives: the quotient rounded toward minus infinity, modulo `2^width`.
+///
+/// The width is 1 to 128 bits, and both operands are numbers of that width. A zero divisor gives 0.
 pub fn div_floor(width: u32, signed: bool, a: u128, b: u128) -> u128
     requires some { 1 ≤ width }
     requires limit { width ≤ 128 }
@@ -48,6 +58,10 @@ pub fn div_floor(width: u32, signed: bool, a: u128, b: u128) -> u128
     Integer::new(width, signed, a).floor_quotient(&divisor).residue(width)
 }
 
+/// What `$modfloor` gives: `a - b * quotient` with the quotient of `div_floor`, modulo `2^width`.
+///
+/// The width is 1 to 128 bits, and both operands are numbers of that width. A zero divisor gives 0, and otherwise the
+/// remainder has the divisor's sign.
 pub fn mod_floor(width: u32, signed: bool, a: u128, b: u128) -> u128
     requires some { 1 ≤ width }
     requires limit { width ≤ 128 }
@@ -60,20 +74,4 @@ pub fn mod_floor(width: u32, signed: bool, a: u128, b: u128) -> u128
         return 0;
     }
     Integer::new(width, signed, a).floor_remainder(&divisor).residue(width)
-}
-
-pub fn less(width: u32, signed: bool, a: u128, b: u128) -> bool
-    requires some { 1 ≤ width }
-    requires limit { width ≤ 128 }
-    requires a_fits { a < 2 ^ width }
-    requires b_fits { b < 2 ^ width }
-    ensures { result ≡ int_lt (integer_of width signed a) (integer_of width signed b) }
-{
-    let a_negative = is_negative(width, signed, a);
-    let b_negative = is_negative(width, signed, b);
-    if a_negative != b_negative {
-        a_negative
-    } else {
-        a < b
-    }
 }

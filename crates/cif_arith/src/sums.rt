@@ -1,7 +1,7 @@
 // Sums, differences and products modulo a power of two, and sums with carries.
 //
-// A `u128` computes modulo 2^128, of which 2^width is a divisor: so what a wrapping operation leaves out is a multiple
-// of 2^width, and its result is exact modulo 2^width at every width up to 128.
+// The wrapping operations of `u128` compute modulo 2^128. What they leave out is a multiple of 2^128, hence of
+// 2^width, so the lowest bits of their results are exact at every width, also those of a product of 256 bits.
 
 ghost use Rattle.std.specs.Prelude.{◌≡◌, ◌+◌, ◌-◌, ◌*◌, ◌%◌, ◌^◌, ◌<◌, ◌≤◌, pos, ◌-ℤ◌, neg_ℤ, bit_xor};
 ghost use Rattle.cif_defs.specs.Words.{bit_value};
@@ -25,6 +25,9 @@ pub(crate) fn lowest(width: u32, number: u128) -> u128
     number & mask(width)
 }
 
+/// What `$add` gives: the sum modulo `2^width`.
+///
+/// The width is 1 to 128 bits. Of each operand only its lowest `width` bits count, so any number may be given.
 pub fn add(width: u32, a: u128, b: u128) -> u128
     requires some { 1 ≤ width }
     requires limit { width ≤ 128 }
@@ -33,6 +36,9 @@ pub fn add(width: u32, a: u128, b: u128) -> u128
     lowest(width, a.wrapping_add(b))
 }
 
+/// What `$sub` gives: the difference modulo `2^width`.
+///
+/// The width is 1 to 128 bits. Of each operand only its lowest `width` bits count, so any number may be given.
 pub fn sub(width: u32, a: u128, b: u128) -> u128
     requires some { 1 ≤ width }
     requires limit { width ≤ 128 }
@@ -41,6 +47,9 @@ pub fn sub(width: u32, a: u128, b: u128) -> u128
     lowest(width, a.wrapping_sub(b))
 }
 
+/// What `$neg` gives: the negative modulo `2^width`.
+///
+/// The width is 1 to 128 bits. Of the operand only its lowest `width` bits count, so any number may be given.
 pub fn neg(width: u32, a: u128) -> u128
     requires some { 1 ≤ width }
     requires limit { width ≤ 128 }
@@ -49,6 +58,10 @@ pub fn neg(width: u32, a: u128) -> u128
     sub(width, 0, a)
 }
 
+/// What `$mul` gives: the product modulo `2^width`.
+///
+/// The width is 1 to 128 bits. Of each operand only its lowest `width` bits count, so any number may be given. The
+/// whole product may have 256 bits; it is computed modulo `2^128`, which `2^width` divides, so the answer is exact.
 pub fn mul(width: u32, a: u128, b: u128) -> u128
     requires some { 1 ≤ width }
     requires limit { width ≤ 128 }
@@ -72,14 +85,21 @@ fn inverted(width: u32, invert: bool, number: u128) -> u128
     }
 }
 
-/// What `$alu` gives: numbers of `width` bits.
+/// What `$alu` gives: three numbers of as many bits as its operands have.
 #[derive(Clone, Copy, Debug, PartialEq, Eq, Drop)]
 pub struct AluOut {
+    /// The exclusive or of both summands, bit by bit.
     pub x: u128,
+    /// The sum of both summands and the carry in.
     pub y: u128,
+    /// Bit i is the carry out of place i.
     pub co: u128,
 }
 
+/// What `$alu` gives: `a` and `b`, or where `invert` is set the complement of `b`, added with a carry in.
+///
+/// The width is 1 to 128 bits, and both operands are numbers of that width. `carry` is the cell's CI and `invert` its
+/// BI: with both set, `y` is the difference.
 pub fn alu(width: u32, a: u128, b: u128, carry: bool, invert: bool) -> AluOut
     requires some { 1 ≤ width }
     requires limit { width ≤ 128 }

@@ -25,6 +25,9 @@ number_below (b ∷ w) =
     let power : 2 ^ suc (length w) ≡ 2 * 2 ^ length w = pow-succ' 2 (length w) in
     omega arith
 
+pub number-word_below : (n : ℕ) (f : ℕ → Bool) → number (word n f) < 2 ^ n
+number-word_below n f = rw length-word at (number_below (word n f))
+
 lowest_value : (x : ℕ) → bit_value (x % 2 == 1) ≡ x % 2
 lowest_value x = elim (eqb_tells (x % 2) 1) [
     | inl h ↦ ap bit_value h.0 ∙ sym h.1
@@ -131,6 +134,12 @@ int_number-extend m signed w h =
     ap (λ t. pos (number (extend m signed w)) -ℤ pos (if t then 2 ^ length (extend m signed w) else 0)) (top-extend m signed w h)
     ∙ ap (λ k. pos (number (extend m signed w)) -ℤ pos (if signed && top w then 2 ^ k else 0)) long
     ∙ extended_value m (signed && top w) w h
+
+-- a word of that width already
+pub extend-same : (n : ℕ) (signed : Bool) (w : Word) → length w ≡ n → extend n signed w ≡ w
+extend-same n signed w h = same_words _ _ (length-word n _ ∙ sym h)
+    (λ i l. let k : i < n = omega (arith, length-word n (λ j. extended_bit signed j w)) in
+        bit-word n (λ j. extended_bit signed j w) i false k ∙ get_or_default w i (signed && top w) false (omega arith))
 
 -- a comparison is one of the operands' own numbers
 pub compared-numbers : (f : ℤ → ℤ → Bool) (signed : Bool) (a b : Word) → compared f signed a b ≡ f (int_number signed a) (int_number signed b)
