@@ -95,7 +95,7 @@ carry_out-digits a b carry_in i =
     let last : (a / 2 ^ i % 2 + b / 2 ^ i % 2 + (a % 2 ^ i + b % 2 ^ i + bit_value carry_in) / 2 ^ i) % 2 ≡ (a + b + bit_value carry_in) / 2 ^ i % 2 = omega arith in
     ap (λ k. nat_le k (a % 2 ^ (i + 1) + b % 2 ^ (i + 1) + bit_value carry_in)) power ∙ ap (nat_le (2 * 2 ^ i)) sums
     ∙ carry_cases (2 ^ i) (a % 2 ^ i + b % 2 ^ i + bit_value carry_in) (a / 2 ^ i % 2) (b / 2 ^ i % 2) ((a % 2 ^ i + b % 2 ^ i + bit_value carry_in) / 2 ^ i)
-      (div-mul-le_self (a % 2 ^ i + b % 2 ^ i + bit_value carry_in) (2 ^ i)) (lt-div-mul-add some) (mod-lt (a / 2 ^ i) (omega arith)) (mod-lt (b / 2 ^ i) (omega arith)) carried
+    (div-mul-le_self (a % 2 ^ i + b % 2 ^ i + bit_value carry_in) (2 ^ i)) (lt-div-mul-add some) (mod-lt (a / 2 ^ i) (omega arith)) (mod-lt (b / 2 ^ i) (omega arith)) carried
     ∙ ap (λ k. (digit a i && digit b i) || ((digit a i || digit b i) && not (k == 1))) last
 
 -- a digit of the carries, from a sum y of n bits

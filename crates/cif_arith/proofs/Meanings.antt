@@ -6,7 +6,7 @@ use Rattle.std.specs.Ordering.{int_eq}
 use Rattle.std.proofs.Common.{arith, sym, ap, ◌∙◌}
 use Rattle.std.proofs.Math.Nat.{div-le_self, mod-eq_of_lt}
 use Rattle.std.proofs.lemmas.Bool.Decides.{nat_tests}
-use Rattle.cif_defs.specs.Meanings.{add_word, alu_carry_word, alu_operand, alu_sum, alu_sum_word, alu_xor_word, compared, divided, mul_word, neg_word, sub_word}
+use Rattle.cif_defs.specs.Meanings.{add_word, alu_carry_word, alu_operand, alu_sum_word, alu_xor_word, compared, divided, mul_word, neg_word, sub_word}
 use Rattle.cif_defs.specs.Words.{Word, bit, bit_value, digit, extend, extended_bit, int_number, int_word_of, number, word, word_of, xor}
 use Rattle.cif_defs.proofs.WordLaws.{bit-word, length-word}
 use Rattle.cif_defs.proofs.Numbers.{number_complement, word-same}
@@ -103,9 +103,9 @@ pub word_of-alu_x : (n : ℕ) (signed invert : Bool) (u v : Word) (a b r : ℕ) 
 word_of-alu_x n signed invert u v a b r e f h =
     let operand : inverted_where invert n b ≡ number (alu_operand n signed invert v) = sym (number-alu_operand n signed invert v b f) in
     ap (word_of n) h ∙ word-same n _ _ (λ i l.
-        digit-xor a (inverted_where invert n b) i
-        ∙ ap (λ x. xor x (digit (inverted_where invert n b) i)) (ap (λ x. digit x i) e ∙ digit-number (extend n signed u) i ∙ bit-word n (λ k. extended_bit signed k u) i false l)
-        ∙ ap (λ y. xor (extended_bit signed i u) y) (ap (λ x. digit x i) operand ∙ digit-number (alu_operand n signed invert v) i))
+    digit-xor a (inverted_where invert n b) i
+    ∙ ap (λ x. xor x (digit (inverted_where invert n b) i)) (ap (λ x. digit x i) e ∙ digit-number (extend n signed u) i ∙ bit-word n (λ k. extended_bit signed k u) i false l)
+    ∙ ap (λ y. xor (extended_bit signed i u) y) (ap (λ x. digit x i) operand ∙ digit-number (alu_operand n signed invert v) i))
 
 pub word_of-alu_y : (n : ℕ) (signed carry_in invert : Bool) (u v : Word) (a b r : ℕ) → a ≡ number (extend n signed u) → b ≡ number (extend n signed v)
     → r ≡ (a + inverted_where invert n b + bit_value carry_in) % 2 ^ n → word_of n r ≡ alu_sum_word n signed carry_in invert u v
@@ -120,7 +120,7 @@ word_of-alu_co n signed carry_in invert u v a b r e f h =
     let operand : inverted_where invert n b ≡ number (alu_operand n signed invert v) = sym (number-alu_operand n signed invert v b f) in
     ap (word_of n) h ∙ word_of-number n (word n (λ i. carry_out a (inverted_where invert n b) carry_in i)) (length-word n _)
     ∙ word-same n _ _ (λ i l.
-        ap (λ x. nat_le (2 ^ (i + 1)) (x + inverted_where invert n b % 2 ^ (i + 1) + bit_value carry_in))
-          (ap (λ x. x % 2 ^ (i + 1)) e ∙ sym (number-word_low (i + 1) n (λ k. extended_bit signed k u) (omega arith)))
-        ∙ ap (λ y. nat_le (2 ^ (i + 1)) (number (extend (i + 1) signed u) + y + bit_value carry_in))
-          (ap (λ x. x % 2 ^ (i + 1)) operand ∙ sym (number-word_low (i + 1) n (λ k. xor (extended_bit signed k v) invert) (omega arith))))
+    ap (λ x. nat_le (2 ^ (i + 1)) (x + inverted_where invert n b % 2 ^ (i + 1) + bit_value carry_in))
+    (ap (λ x. x % 2 ^ (i + 1)) e ∙ sym (number-word_low (i + 1) n (λ k. extended_bit signed k u) (omega arith)))
+    ∙ ap (λ y. nat_le (2 ^ (i + 1)) (number (extend (i + 1) signed u) + y + bit_value carry_in))
+    (ap (λ x. x % 2 ^ (i + 1)) operand ∙ sym (number-word_low (i + 1) n (λ k. xor (extended_bit signed k v) invert) (omega arith))))

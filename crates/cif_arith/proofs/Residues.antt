@@ -55,15 +55,15 @@ residue-mod m n (negsuc d) h =
 -- a difference as a wrapping subtraction has it
 wrapped-difference : (m a b : ℕ) → a < 2 ^ m → b ≤ 2 ^ m → (a + (2 ^ m - b)) % 2 ^ m ≡ residue m (pos a -ℤ pos b)
 wrapped-difference m a b h k = elim (le_or_lt a b) [
-    | inl l ↦ (let down : pos a -ℤ pos b ≡ negsuc (b - a - 1) = omega (arith, ints) in
-        let sum : (a + (2 ^ m - b)) % 2 ^ m ≡ a + (2 ^ m - b) = mod-eq_of_lt (omega arith) in
-        let rest : (b - a - 1) % 2 ^ m ≡ b - a - 1 = mod-eq_of_lt (omega arith) in
-        let same : a + (2 ^ m - b) ≡ 2 ^ m - 1 - (b - a - 1) % 2 ^ m = omega arith in
-        sum ∙ same ∙ sym (ap (residue m) down))
-    | inr l ↦ (let up : pos a -ℤ pos b ≡ pos (a - b) = omega (arith, ints) in
-        let sum : a + (2 ^ m - b) ≡ a - b + 2 ^ m = omega arith in
-        ap (λ x. x % 2 ^ m) sum ∙ add-mod_right (a - b) (2 ^ m) ∙ sym (ap (residue m) up))
-  ]
+  | inl l ↦ (let down : pos a -ℤ pos b ≡ negsuc (b - a - 1) = omega (arith, ints) in
+      let sum : (a + (2 ^ m - b)) % 2 ^ m ≡ a + (2 ^ m - b) = mod-eq_of_lt (omega arith) in
+      let rest : (b - a - 1) % 2 ^ m ≡ b - a - 1 = mod-eq_of_lt (omega arith) in
+      let same : a + (2 ^ m - b) ≡ 2 ^ m - 1 - (b - a - 1) % 2 ^ m = omega arith in
+      sum ∙ same ∙ sym (ap (residue m) down))
+  | inr l ↦ (let up : pos a -ℤ pos b ≡ pos (a - b) = omega (arith, ints) in
+      let sum : a + (2 ^ m - b) ≡ a - b + 2 ^ m = omega arith in
+      ap (λ x. x % 2 ^ m) sum ∙ add-mod_right (a - b) (2 ^ m) ∙ sym (ap (residue m) up))
+]
 
 pub residue-difference : (m n a b : ℕ) → n ≤ m → a < 2 ^ m → b ≤ 2 ^ m → (a + (2 ^ m - b)) % 2 ^ m % 2 ^ n ≡ residue n (pos a -ℤ pos b)
 residue-difference m n a b h k l = ap (λ x. x % 2 ^ n) (wrapped-difference m a b k l) ∙ residue-mod m n (pos a -ℤ pos b) h

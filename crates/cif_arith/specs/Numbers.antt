@@ -16,11 +16,11 @@ residue n z = unsigned_abs (int_rem_euclid z (pos (2 ^ n)))
 abbrev pub division : (ℤ → ℤ → ℤ) → ℕ → Bool → ℕ → ℕ → ℕ
 division f n signed a b = residue n (if int_eq (integer_of n signed b) (pos 0) then pos 0 else f (integer_of n signed a) (integer_of n signed b))
 
--- n bits, complemented where invert is 1
+-- a number of n bits, complemented where invert is 1
 abbrev pub inverted_where : Bool → ℕ → ℕ → ℕ
 inverted_where invert n x = if invert then 2 ^ n - 1 - x else x
 
--- whether the lowest i + 1 bits of both and the carry in add up to a carry out of place i
+-- whether there is a carry out of place i: the lowest i + 1 bits of both and the carry in add up to 2 ^ (i + 1) or more
 abbrev pub carry_out : ℕ → ℕ → Bool → ℕ → Bool
 carry_out a b carry_in i = nat_le (2 ^ (i + 1)) (a % 2 ^ (i + 1) + b % 2 ^ (i + 1) + bit_value carry_in)
 

@@ -21,7 +21,9 @@ pub fn div(width: u32, signed: bool, a: u128, b: u128) -> u128
     if divisor.is_zero() {
         return 0;
     }
-    Integer::new(width, signed, a).quotient(&divisor).residue(width)
+    Integer::new(width, signed, a)
+        .quotient(&divisor)
+        .residue(width)
 }
 
 /// What `$mod` gives: the remainder of `div`, which has the dividend's sign, as IEEE 1364 has `%`, modulo `2^width`.
@@ -38,7 +40,9 @@ pub fn modulo(width: u32, signed: bool, a: u128, b: u128) -> u128
     if divisor.is_zero() {
         return 0;
     }
-    Integer::new(width, signed, a).remainder(&divisor).residue(width)
+    Integer::new(width, signed, a)
+        .remainder(&divisor)
+        .residue(width)
 }
 
 /// What `$divfloor` gives: the quotient rounded toward minus infinity, modulo `2^width`.
@@ -55,7 +59,9 @@ pub fn div_floor(width: u32, signed: bool, a: u128, b: u128) -> u128
     if divisor.is_zero() {
         return 0;
     }
-    Integer::new(width, signed, a).floor_quotient(&divisor).residue(width)
+    Integer::new(width, signed, a)
+        .floor_quotient(&divisor)
+        .residue(width)
 }
 
 /// What `$modfloor` gives: `a - b * quotient` with the quotient of `div_floor`, modulo `2^width`.
@@ -73,5 +79,7 @@ pub fn mod_floor(width: u32, signed: bool, a: u128, b: u128) -> u128
     if divisor.is_zero() {
         return 0;
     }
-    Integer::new(width, signed, a).floor_remainder(&divisor).residue(width)
+    Integer::new(width, signed, a)
+        .floor_remainder(&divisor)
+        .residue(width)
 }

@@ -78,11 +78,7 @@ fn inverted(width: u32, invert: bool, number: u128) -> u128
     ensures value { result ≡ inverted_where invert width number }
     ensures fits { result < 2 ^ width }
 {
-    if invert {
-        mask(width) - number
-    } else {
-        number
-    }
+    if invert { mask(width) - number } else { number }
 }
 
 /// What `$alu` gives: three numbers of as many bits as its operands have.

@@ -47,8 +47,16 @@ fn signed_divisions(rt: HostRuntime) {
         assert!(rt; a < 256 && b < 256);
         assert_eq!(rt; div(8, true, a, b), quotient, "{a} / {b}");
         assert_eq!(rt; modulo(8, true, a, b), remainder, "{a} % {b}");
-        assert_eq!(rt; div_floor(8, true, a, b), floor_quotient, "{a} / {b}, floor");
-        assert_eq!(rt; mod_floor(8, true, a, b), floor_remainder, "{a} % {b}, floor");
+        assert_eq!(rt;
+            div_floor(8, true, a, b),
+            floor_quotient,
+            "{a} / {b}, floor"
+        );
+        assert_eq!(rt;
+            mod_floor(8, true, a, b),
+            floor_remainder,
+            "{a} % {b}, floor"
+        );
     }
 }
 
@@ -64,7 +72,10 @@ fn divisions_at_the_limits(rt: HostRuntime) {
     assert_eq!(rt; div(128, true, LEAST, u128::MAX), LEAST);
     assert_eq!(rt; modulo(128, true, LEAST, u128::MAX), 0);
     // -2^127 is 3 * -0x2aaa_aaaa_aaaa_aaaa_aaaa_aaaa_aaaa_aaab + 1
-    assert_eq!(rt; div_floor(128, true, LEAST, 3), 0xd555_5555_5555_5555_5555_5555_5555_5555);
+    assert_eq!(rt;
+        div_floor(128, true, LEAST, 3),
+        0xd555_5555_5555_5555_5555_5555_5555_5555
+    );
     assert_eq!(rt; div(1, true, 1, 1), 1);
 }
 
@@ -80,9 +91,30 @@ fn orders(rt: HostRuntime) {
 #[test]
 fn alu(rt: HostRuntime) {
     let out = crate::alu(4, 0b0011, 0b0001, true, true);
-    assert_eq!(rt; out, AluOut { x: 0b1101, y: 0b0010, co: 0b1111 });
+    assert_eq!(rt;
+        out,
+        AluOut {
+            x: 0b1101,
+            y: 0b0010,
+            co: 0b1111
+        }
+    );
     let borrowed = crate::alu(4, 0b0101, 0b0011, false, true);
-    assert_eq!(rt; borrowed, AluOut { x: 0b1001, y: 0b0001, co: 0b1100 });
+    assert_eq!(rt;
+        borrowed,
+        AluOut {
+            x: 0b1001,
+            y: 0b0001,
+            co: 0b1100
+        }
+    );
     let wide = crate::alu(128, u128::MAX, 0, true, false);
-    assert_eq!(rt; wide, AluOut { x: u128::MAX, y: 0, co: u128::MAX });
+    assert_eq!(rt;
+        wide,
+        AluOut {
+            x: u128::MAX,
+            y: 0,
+            co: u128::MAX
+        }
+    );
 }

@@ -30,9 +30,9 @@ number-word_below n f = rw length-word at (number_below (word n f))
 
 lowest_value : (x : ℕ) → bit_value (x % 2 == 1) ≡ x % 2
 lowest_value x = elim (eqb_tells (x % 2) 1) [
-    | inl h ↦ ap bit_value h.0 ∙ sym h.1
-    | inr h ↦ (let other : x % 2 ≢ 1 = h.1 in ap bit_value h.0 ∙ (omega arith))
-  ]
+  | inl h ↦ ap bit_value h.0 ∙ sym h.1
+  | inr h ↦ (let other : x % 2 ≢ 1 = h.1 in ap bit_value h.0 ∙ (omega arith))
+]
 
 lowest_bit : (b : Bool) (m : ℕ) → ((bit_value b + 2 * m) % 2 == 1) ≡ b
 lowest_bit true m = grind (arith, nat_tests)
@@ -76,9 +76,9 @@ number-word_low k n f h =
 
 filled_with_zeros : (m : ℕ) (w : Word) → length w ≤ m → number (word m (λ i. get_or w i false)) ≡ number w
 filled_with_zeros m [] h = number_zero _ (λ i. elim (le_or_lt i m) [
-    | inl l ↦ bit-word m (λ k. get_or [] k false) i false l
-    | inr l ↦ past_word m (λ k. get_or [] k false) i false l
-  ])
+  | inl l ↦ bit-word m (λ k. get_or [] k false) i false l
+  | inr l ↦ past_word m (λ k. get_or [] k false) i false l
+])
 filled_with_zeros zero (b ∷ w) h = absurd (omega arith)
 filled_with_zeros (suc m) (b ∷ w) h =
     let rest : number (word m (λ i. get_or w i false)) ≡ number w = filled_with_zeros m w (omega arith) in
@@ -139,7 +139,7 @@ int_number-extend m signed w h =
 pub extend-same : (n : ℕ) (signed : Bool) (w : Word) → length w ≡ n → extend n signed w ≡ w
 extend-same n signed w h = same_words _ _ (length-word n _ ∙ sym h)
     (λ i l. let k : i < n = omega (arith, length-word n (λ j. extended_bit signed j w)) in
-        bit-word n (λ j. extended_bit signed j w) i false k ∙ get_or_default w i (signed && top w) false (omega arith))
+    bit-word n (λ j. extended_bit signed j w) i false k ∙ get_or_default w i (signed && top w) false (omega arith))
 
 -- a comparison is one of the operands' own numbers
 pub compared-numbers : (f : ℤ → ℤ → Bool) (signed : Bool) (a b : Word) → compared f signed a b ≡ f (int_number signed a) (int_number signed b)

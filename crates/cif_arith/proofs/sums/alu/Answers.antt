@@ -14,5 +14,5 @@ returns-clause-y c = sum c ∙ ap (λ b. (c.args.a + b + bit_value c.args.carry)
 pub returns-clause-co : goal.returns-clause-co
 returns-clause-co c =
     carries-bitwise c.args.width c.args.a c.inverted-operand.result c.lowest-y.result c.args.carry
-      c.requires.limit c.requires.a_fits c.inverted-operand.ensures.fits c.lowest-y.type_inv (sum c)
+    c.requires.limit c.requires.a_fits c.inverted-operand.ensures.fits c.lowest-y.type_inv (sum c)
     ∙ ap (λ b. carries c.args.width c.args.a b c.args.carry) c.inverted-operand.ensures.value
