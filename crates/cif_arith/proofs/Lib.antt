@@ -1,0 +1,4 @@
+pub mod Residues
+pub mod Carries
+pub mod Integers
+pub mod Meanings
