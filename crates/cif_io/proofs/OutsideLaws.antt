@@ -3,7 +3,7 @@ use Rattle.std.specs.Prelude.{ℕ, ◌+◌, ◌-◌, ◌<◌, ◌≤◌, ◌≡�
 use Rattle.std.proofs.Common.{arith, ap, sym, inl, inr, ◌∙◌, append_assoc, append-nil, take-append-drop}
 use Rattle.std.proofs.Math.Seq.{take-add}
 use Rattle.std.proofs.lemmas.List.{take_all, take_rest}
-use Rattle.cif_io.specs.Outside.{File, Files, file_named, file_limit, Rose, IsTold, IsToldLong, taken_with, Appends, AppendsPrefix}
+use Rattle.cif_io.specs.Outside.{Files, file_named, file_limit, Rose, IsTold, IsToldLong, taken_with, Appends, AppendsPrefix}
 
 pub taken_with-nothing : (old : Option (List ℕ)) → taken_with old [] ≡ old
 unfolding taken_with

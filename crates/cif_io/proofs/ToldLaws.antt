@@ -1,5 +1,5 @@
 -- What is told of a file by its name.
-use Rattle.std.specs.Prelude.{ℕ, ◌≡◌, Bool, true, false, List, [], ◌∷◌, Option, Some, None, find, option_map, bytes_eq, cond, refl}
+use Rattle.std.specs.Prelude.{ℕ, ◌≡◌, Bool, true, false, List, [], ◌∷◌, Option, Some, find, option_map, bytes_eq, cond, refl}
 use Rattle.cif_io.specs.Outside.{file_named}
 use Rattle.cif_io.specs.Told.{told_files}
 use Rattle.cif_io.specs.declared.lists.File.{File}

@@ -1,5 +1,5 @@
 -- Which calls of a store and of a sink in memory fail, and how much of a piece the sink takes.
-use Rattle.std.specs.Prelude.{ℕ, ◌+◌, ◌-◌, ◌^◌, ◌<◌, ◌≡◌, ◌⊎◌, min, List, length, Contains, Option, None}
+use Rattle.std.specs.Prelude.{ℕ, ◌<◌, ◌≡◌, ◌⊎◌, min, List, length, Contains, None}
 use Rattle.cif_io.specs.Counts.{counted}
 use Rattle.cif_io.specs.Outside.{file_named}
 use Rattle.cif_io.specs.declared.memory.MemStore.{MemStore}

@@ -5,7 +5,7 @@ ghost use Rattle.std.specs.Option.{option_copied};
 use std::alloc::{AllocError, Global};
 use std::marker::Model;
 
-/// Bytes, and the room that they have for more.
+/// Bytes, and the room that they have for more. Contracts see both.
 #[derive(Debug, Drop)]
 pub struct Bytes {
     items: Vec<u8>,
@@ -29,7 +29,7 @@ impl Bytes {
         Bytes { items }
     }
 
-    /// No bytes yet, and room for so many.
+    /// No bytes yet, and room for so many. `AllocError` is want of memory.
     pub fn with_room(alloc: Global, room: usize) -> Result<Bytes, AllocError>
         ensures items { IfOk result (λ b. b.items ≡ []) }
         ensures room { IfOk result (λ b. b.room ≡ room) }
@@ -37,6 +37,7 @@ impl Bytes {
         Ok(Bytes::of(Vec::with_capacity(alloc, room)?))
     }
 
+    /// The bytes.
     pub fn items(&self) -> &[u8]
         ensures { result.now ≡ self.now.items }
     {
@@ -75,18 +76,21 @@ impl Model for CallNumbers {
 }
 
 impl CallNumbers {
+    /// These numbers.
     pub fn of(items: Vec<u64>) -> CallNumbers
         ensures { result ≡ items.items }
     {
         CallNumbers { items }
     }
 
+    /// The numbers.
     pub fn items(&self) -> &[u64]
         ensures { result.now ≡ self.now }
     {
         self.items.as_slice()
     }
 
+    /// Whether this call fails.
     pub fn contains(&self, call: u64) -> bool
         ensures { IsTrue result ↔ Contains self.now call }
     {
@@ -121,12 +125,14 @@ impl Files {
     ghost use Rattle.cif_io.specs.Told.{told_file, told_files};
     ghost use Rattle.cif_io.specs.Outside.{file_named};
 
+    /// These files, where the first of a name comes first.
     pub fn of(items: Vec<File>) -> Files
         ensures { result ≡ told_files items.items }
     {
         Files { items }
     }
 
+    /// The files.
     pub fn items(&self) -> &[File]
         ensures { told_files result.now ≡ self.now }
     {

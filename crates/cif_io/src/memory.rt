@@ -8,12 +8,18 @@ use super::outside::{FILE_LIMIT, Failed, Sink, Store, StoreFault};
 use std::alloc::Global;
 
 /// A store in memory. The fetches that `fail_at` numbers fail, and those of a missing name.
+///
+/// A failure copies the name. Where there is no memory for the copy, the answer is `Memory`, which
+/// counts no fault and keeps the last name. Counts stand still at their last value, 2^64 - 1.
 #[derive(Debug, Drop)]
 pub struct MemStore {
     pub files: Files,
     pub fail_at: CallNumbers,
+    /// The calls so far.
     pub calls: u64,
+    /// The failures so far.
     pub faults: u64,
+    /// The name that failed last.
     pub last: Bytes,
 }
 
@@ -32,7 +38,7 @@ impl Store for MemStore {
         ensures too_long { result ≡ Err StoreFault.TooLong
             → (bytes : List ℕ) × (file_named self.old.files name.now ≡ Some bytes) × (file_limit < length bytes) }
 
-        // It fails exactly where its number is listed or the name is missing, or finds no memory.
+        // It fails exactly where its number is listed or the name is missing, unless memory is wanting.
         ensures fails_only { result ≡ Err StoreFault.Failed → FailsFetch self.old name.now }
         ensures fails { FailsFetch self.old name.now
             → (result ≡ Err StoreFault.Failed) ⊎ (result ≡ Err StoreFault.Memory) }
@@ -43,6 +49,8 @@ impl Store for MemStore {
             → (self.new.faults ≡ self.old.faults) × (self.new.last ≡ self.old.last) }
 
         ensures never_falls { self.old.faults ≤ self.new.faults }
+        ensures sound { self.old.fail_at ≡ [] → IsSome (file_named self.old.files name.now)
+            → self.new.faults ≡ self.old.faults }
 
         ensures calls { self.new.calls ≡ counted self.old.calls }
         ensures same { (self.new.files ≡ self.old.files) × (self.new.fail_at ≡ self.old.fail_at) }
@@ -90,13 +98,18 @@ pub(crate) fn failure(alloc: Global, name: &str, faults: &mut u64, last: &mut By
 
 /// A sink in memory, which takes at most `most` bytes in a call and none beyond its room.
 ///
-/// The writes that `fail_at` numbers fail, and those of a piece that finds no room.
+/// The writes that `fail_at` numbers fail, and those of a piece that finds no room. It takes no
+/// memory. Counts stand still at their last value, 2^64 - 1.
 #[derive(Debug, Drop)]
 pub struct MemSink {
+    /// What it took, and the room for more.
     pub bytes: Bytes,
+    /// The most bytes of one call, at least 1.
     pub most: usize,
     pub fail_at: CallNumbers,
+    /// The calls so far.
     pub calls: u64,
+    /// The failures so far.
     pub faults: u64,
     ghost some: { 0 < most },
 }
@@ -121,6 +134,8 @@ impl Sink for MemSink {
         ensures room { IfOk result (λ n. self.old.bytes.room ≤ self.new.bytes.room + n) }
         ensures kept { OnOk result (self.new.faults ≡ self.old.faults) }
         ensures never_falls { self.old.faults ≤ self.new.faults }
+        ensures sound { self.old.fail_at ≡ [] → length bytes.now ≤ self.old.bytes.room
+            → self.new.faults ≡ self.old.faults }
 
         ensures calls { self.new.calls ≡ counted self.old.calls }
         ensures same { (self.new.most ≡ self.old.most) × (self.new.fail_at ≡ self.old.fail_at) }

@@ -28,10 +28,11 @@ pub enum StoreFault {
 #[error("the bytes could not be written")]
 pub struct Failed;
 
-/// Named files.
+/// Named files, for fetching.
 ///
-/// A store may tell its files (`told`), which never change. It counts its faults and keeps the name
-/// of the last fetch that failed, which is empty before the first.
+/// A store may tell its files (`told`), which never change. It counts its faults, and keeps the name
+/// of the last fetch that failed, which is empty before the first. Only an answer `Failed` touches
+/// these two.
 pub trait Store {
     ghost told: { Self → Option Files };
 
@@ -39,9 +40,11 @@ pub trait Store {
 
     ghost last_failed: { Self → List ℕ };
 
-    /// What the file of that name holds, of at most 67,108,864 bytes.
+    /// What the file of that name holds, which is at most 67,108,864 bytes.
     ///
-    /// A name that a store tells its files without is `Failed` or `Memory`, since nothing else fits it.
+    /// Where the answer is not `Failed`, it is `TooLong` exactly where the told file is longer, unless
+    /// memory is wanting. For a name that is missing among the told files no answer but `Failed` and
+    /// `Memory` meets these clauses.
     fn fetch(&mut self, alloc: Global, name: &str) -> Result<Vec<u8>, StoreFault>
         ensures content { IfOk result (λ v. IsTold (told self.old) name.now v.items) }
         ensures within { IfOk result (λ v. length v.items ≤ file_limit) }
@@ -58,7 +61,8 @@ pub trait Store {
 
 /// What takes bytes, one piece after another.
 ///
-/// A sink may tell the bytes that it took so far (`taken`). It counts its faults.
+/// A sink may tell the bytes that it took so far (`taken`); one that tells nothing goes on so. It
+/// counts its faults: only an answer `Failed` raises the count.
 pub trait Sink {
     ghost taken: { Self → Option (List ℕ) };
 

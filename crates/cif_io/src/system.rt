@@ -1,7 +1,9 @@
 //! The store and the sinks of the system.
 //!
 //! They tell no content: what a file or a stream really holds is trusted, and no clause speaks of it.
-ghost use Rattle.std.specs.Prelude.{◌≡◌, ◌≤◌, [], None, length, IfOk};
+ghost use Rattle.std.specs.Prelude.{◌≡◌, ◌≢◌, ◌<◌, ◌≤◌, [], None, length, IfOk, IfSome};
+ghost use Rattle.std.specs.IoError.{error_kind};
+ghost use Rattle.cif_io.specs.Outside.{file_limit};
 
 use super::lists::Bytes;
 use super::memory::failure;
@@ -11,11 +13,16 @@ use std::io::{ErrorKind, Read, Write};
 use std::rt::Files;
 use std::{fs, io};
 
-/// The files of the system. A name is a path.
+/// The files of the system, over a runtime or a reference to one. A name is a path.
+///
+/// A failure copies the name. Where there is no memory for the copy, the answer is `Memory`, which
+/// counts no fault and keeps the last name. The count stands still at its last value, 2^64 - 1.
 #[derive(Debug, Drop)]
 pub struct FileStore<R> {
     pub files: R,
+    /// The failures so far.
     pub faults: u64,
+    /// The name that failed last.
     pub last: Bytes,
 }
 
@@ -42,27 +49,60 @@ impl<R: Files> Store for FileStore<R> {
 
     fn fetch(&mut self, alloc: Global, name: &str) -> Result<Vec<u8>, StoreFault> {
         match read_file(&self.files, alloc, name) {
-            Ok(bytes) if bytes.len() > FILE_LIMIT => Err(StoreFault::TooLong),
-            Ok(bytes) => Ok(bytes),
-            Err(e) if e.kind() == ErrorKind::OutOfMemory => Err(StoreFault::Memory),
-            Err(_) => Err(failure(alloc, name, &mut self.faults, &mut self.last)),
+            Err(StoreFault::Failed) => {
+                Err(failure(alloc, name, &mut self.faults, &mut self.last))
+            }
+            answer => answer,
         }
     }
 }
 
-/// What a file holds, of which at most one byte past the limit is read.
-fn read_file<R: Files>(files: &R, alloc: Global, name: &str) -> io::Result<Vec<u8>> {
+fn read_file<R: Files>(files: &R, alloc: Global, name: &str) -> Result<Vec<u8>, StoreFault>
+    ensures within { IfOk result (λ v. length v.items ≤ file_limit) }
+{
+    let file = fs::open(files, name).map_err(fault_of)?;
+    read_whole(alloc, file)
+}
+
+/// All that a reader gives, where that is not too long. At most one byte past the limit is read.
+fn read_whole<F: Read + Drop>(alloc: Global, reader: F) -> Result<Vec<u8>, StoreFault>
+    ensures content { IfOk result (λ v. IfSome (F.remaining reader) (λ bytes. v.items ≡ bytes)) }
+    ensures within { IfOk result (λ v. length v.items ≤ file_limit) }
+    ensures too_long { result ≡ Err StoreFault.TooLong
+        → IfSome (F.remaining reader) (λ bytes. file_limit < length bytes) }
+{
     let mut bytes = Vec::new(alloc);
-    fs::open(files, name)?
+    reader
         .take(FILE_LIMIT as u64 + 1)
-        .read_to_end(&mut bytes)?;
+        .read_to_end(&mut bytes)
+        .map_err(fault_of)?;
+    if bytes.len() > FILE_LIMIT {
+        return Err(StoreFault::TooLong);
+    }
     Ok(bytes)
 }
 
+fn fault_of(error: io::Error) -> StoreFault
+    ensures memory { result ≡ StoreFault.Memory → error_kind error ≡ ErrorKind.OutOfMemory }
+    ensures other { result ≢ StoreFault.TooLong }
+{
+    match error.kind() {
+        ErrorKind::OutOfMemory => StoreFault::Memory,
+        _ => StoreFault::Failed,
+    }
+}
+
+/// How often a write is tried that signals interrupt.
+const TRIES: u32 = 64;
+
 /// A stream of the system, which is flushed in each write.
+///
+/// A write that takes nothing of a piece with bytes is a failure. The count stands still at its last
+/// value, 2^64 - 1.
 #[derive(Debug, Drop)]
 pub struct StdSink<W> {
     pub stream: W,
+    /// The failures so far.
     pub faults: u64,
 }
 
@@ -93,10 +133,19 @@ impl<W: Write> Sink for StdSink<W> {
     }
 }
 
+/// Writes once, and again where a signal came in between.
 fn write_some<W: Write>(stream: &mut W, bytes: &[u8]) -> io::Result<usize>
     ensures { IfOk result (λ n. n ≤ length bytes.now) }
 {
-    let n = stream.write(bytes)?;
-    stream.flush()?;
-    Ok(n)
+    for _ in 0..TRIES {
+        match stream.write(bytes) {
+            Ok(n) => {
+                stream.flush()?;
+                return Ok(n);
+            }
+            Err(e) if e.kind() == ErrorKind::Interrupted => {}
+            Err(e) => return Err(e),
+        }
+    }
+    Err(io::Error::from(ErrorKind::Interrupted))
 }

@@ -137,12 +137,6 @@ fn sink_in_memory_fails_without_room(rt: HostRuntime) -> Result<(), Fail> {
 }
 
 #[test]
-fn open_gate_lets_all_pass(_rt: HostRuntime) {
-    Open.pass(1, 2, 3);
-    Open.pinned(1, 2);
-}
-
-#[test]
 fn store_of_the_system_reads_a_file(rt: HostRuntime) -> Result<(), Fail> {
     let alloc = rt.alloc();
     let folder = env::temp_dir(&rt)?;
