@@ -1,0 +1,5 @@
+pub mod Outside
+pub mod Counts
+pub mod Lists
+pub mod Told
+pub mod Memory
