@@ -134,11 +134,11 @@ impl Cell {
         (index as usize) < digits.len() && digits[index as usize]
     }
 
-    /// How many operands it has.
-    pub fn operand_count(&self) -> usize
-        ensures { result ≡ length self.now.operands }
+    /// What each operand reads.
+    pub fn operands(&self) -> &[Sources]
+        ensures { result.now ≡ self.now.operands }
     {
-        self.operands.len()
+        &self.operands
     }
 
     /// The bits that an operand reads, lowest first.
@@ -150,11 +150,11 @@ impl Cell {
         sources.items()
     }
 
-    /// How many outputs it has.
-    pub fn output_count(&self) -> usize
-        ensures { result ≡ length self.now.outputs }
+    /// What each output drives.
+    pub fn outputs(&self) -> &[Targets]
+        ensures { result.now ≡ self.now.outputs }
     {
-        self.outputs.len()
+        &self.outputs
     }
 
     /// The net bits that an output drives, lowest first; None where a bit is unconnected.

@@ -9,7 +9,7 @@ pub mod table;
 pub use cell::{Cell, Digits, Given, Sources, Targets};
 pub use cif_defs::{
     CellList, CellPort, Connection, Connections, Direction, Driver, Kind, Listed, Name, NetBit,
-    Param, ParamValue, Params, PortRow, PortWidth, Raw, RawBit, RawBits, RawCell, RawName,
+    Param, ParamValue, Params, PortRow, PortWidth, Raw, RawBit, RawBits, RawCell, RawName, Role,
     RawNames, RawParam, RawPort, RawPorts, Src, Wire,
 };
 pub use fault::{BuildFault, Spot};

@@ -136,12 +136,12 @@ driven raw = driven_by_inputs 0 (filter is_input raw.ports) ++ driven_by_cells 0
 abbrev pub all_clock_bits : Raw → List RawBit
 all_clock_bits raw = flat_map clock_bits raw.cells
 
--- whether a net number is the clock: the first clock bit
+-- whether a net number is the clock: what stands first among the clock bits of all cells
 abbrev pub is_clock : Raw → ℕ → Bool
-is_clock raw x = is_first (all_clock_bits raw) where
-  is_first : List RawBit → Bool
-  is_first (Net y ∷ bs) = y == x
-  is_first _ = false
+is_clock raw x = stands_first (all_clock_bits raw) where
+  stands_first : List RawBit → Bool
+  stands_first (Net y ∷ bs) = y == x
+  stands_first _ = false
 
 -- what drives a number, by the first place that has it
 abbrev pub driver_in : List (ℕ × Driver) → ℕ → Option Driver
@@ -153,7 +153,7 @@ driver_of_number raw x = if is_clock raw x then Clock else unwrap_or (driver_in 
 
 -- ---- initial words
 
--- the digit 0 or 1 at a place of an `init`, lowest first
+-- the digit 0 or 1 at place i of an `init` text, whose highest digit is first; another byte or a missing one gives none
 abbrev pub digit_at : List ℕ → ℕ → Option Bool
 digit_at text i = digit_by (get_or (reverse text) i 0) where
   digit_by : ℕ → Option Bool

@@ -13,9 +13,9 @@ use Rattle.cif_defs.specs.declared.nets.Wire.{Wire}
 
 -- `VALUE/TAINT`
 abbrev pub pair_text : Word → Word → List ℕ
-pair_text value taint = text_of value ++ codes "/" ++ text_of taint
+pair_text v t = text_of v ++ codes "/" ++ text_of t
 
--- `NAME VALUE/TAINT`, with the settled value and taint of the port's bits at cycle k
+-- `NAME VALUE/TAINT`, with the value and taint of the port's bits at cycle k
 abbrev pub port_line : Netlist → Stimulus → ℕ → Wire → List ℕ
 port_line n s k w = coded w.name ++ codes " " ++ pair_text (src_word (value n s k) w.bits) (taint_word (taint n s k) w.bits) ++ line_end ∷ []
 

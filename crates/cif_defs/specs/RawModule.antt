@@ -1,5 +1,5 @@
 -- What a raw module says of its cells: parameters in their two spellings, and connections.
-use Rattle.std.specs.Prelude.{ℕ, ◌^◌, nat_lt, Bool, true, false, not, ◌&&◌, ◌==◌, List, [], ◌∷◌, ◌++◌, length, bytes_eq, Option, Some, None, option_and_then, option_map, unwrap_or, ℤ, pos, negsuc, if◌then◌else◌}
+use Rattle.std.specs.Prelude.{ℕ, ◌^◌, nat_lt, Bool, true, false, not, ◌&&◌, ◌||◌, ◌==◌, List, [], ◌∷◌, ◌++◌, length, bytes_eq, Option, Some, None, option_and_then, option_map, unwrap_or, ℤ, pos, negsuc, if◌then◌else◌}
 use Rattle.std.specs.List.{list_all, flat_map}
 use Rattle.cif_defs.specs.Words.{Word, number, word_of}
 use Rattle.cif_defs.specs.WordText.{word_of_text, is_no_digit}
@@ -73,7 +73,7 @@ connected c r = bits_named (port_text r.port) c.connections
 abbrev pub port_bits : RawCell → PortRow → List RawBit
 port_bits c r = unwrap_or (connected c r) []
 
--- the bits of some ports of a cell, where the table has its type
+-- the bits that a cell connects to these ports; none where the table lacks its type
 abbrev pub bits_by : (Kind → List PortRow) → RawCell → Option Kind → List RawBit
 bits_by rows c None = []
 bits_by rows c (Some k) = flat_map (port_bits c) (rows k)
@@ -86,6 +86,20 @@ output_bits c = bits_by outputs_of c (kind_of c.kind)
 
 abbrev pub clock_bits : RawCell → List RawBit
 clock_bits c = bits_by clocks_of c (kind_of c.kind)
+
+-- ---- order of names
+
+-- whether x stands before y in byte order
+abbrev pub stands_before : List ℕ → List ℕ → Bool
+stands_before x [] = false
+stands_before [] (c ∷ y) = true
+stands_before (b ∷ x) (c ∷ y) = nat_lt b c || (b == c && stands_before x y)
+
+-- names in byte order, each once
+abbrev pub are_rising : List (List ℕ) → Bool
+are_rising [] = true
+are_rising (x ∷ []) = true
+are_rising (x ∷ y ∷ names) = stands_before x y && are_rising (y ∷ names)
 
 -- ---- net numbers
 

@@ -166,14 +166,14 @@ parameters_of Mem = Width ∷ Size ∷ Offset ∷ Abits ∷ Init ∷ RdPorts ∷
 -- the binary shape
 parameters_of _ = ASigned ∷ BSigned ∷ AWidth ∷ BWidth ∷ YWidth ∷ []
 
--- the parameters that may be of any length, and of which single digits count
+-- the parameters of any length of which a cell keeps the digits
 abbrev pub is_table : Param → Bool
 is_table SrstValue = true
 is_table ArstValue = true
 is_table Lut = true
 is_table _ = false
 
--- the parameters that may be of any length and aren't asked for by number or digit: initial words and masks
+-- INIT and the masks of a memory: of any length, read digit by digit, and not kept in the cell
 abbrev pub is_mask : Param → Bool
 is_mask Init = true
 is_mask RdClkEnable = true

@@ -13,6 +13,7 @@ percent = 37
 
 -- ---- lines and words
 
+-- b put before the first of the pieces
 abbrev pub with_first : ℕ → List (List ℕ) → List (List ℕ)
 with_first b [] = (b ∷ []) ∷ []
 with_first b (piece ∷ pieces) = (b ∷ piece) ∷ pieces

@@ -18,7 +18,7 @@ pub enum Src {
 /// What drives a net bit. Ports of cells are numbered in the order of the table of kinds.
 #[derive(Clone, Copy, Debug, Drop, PartialEq, Eq)]
 pub enum Driver {
-    /// A bit of an input port.
+    /// A bit of an input port; `port` counts the input ports alone, in byte order of name.
     Input { port: u32, index: u32 },
     /// A bit of an output of a combinational cell.
     Output { cell: u32, port: u32, index: u32 },

@@ -33,7 +33,7 @@ pub struct RawParam {
     pub value: ParamValue,
 }
 
-/// Parameters or attributes, in byte order of name.
+/// Parameters or attributes, in byte order of name, each name once.
 pub type Params = Listed<RawParam>;
 
 /// What a cell connects to one of its ports.
@@ -69,7 +69,7 @@ impl Connection {
     }
 }
 
-/// Connections, in byte order of name.
+/// Connections, in byte order of name, each name once.
 pub type Connections = Listed<Connection>;
 
 /// The direction of a module's port.
