@@ -4,6 +4,7 @@
 mod cell;
 mod fault;
 mod netlist;
+mod raw_access;
 pub mod table;
 
 pub use cell::{Cell, Digits, Given, Sources, Targets};

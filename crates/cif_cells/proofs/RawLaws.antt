@@ -1,0 +1,60 @@
+-- What a raw cell gives for a name, found from front to back, and numbers of texts of binary digits.
+use Rattle.std.specs.Prelude.{ℕ, zero, suc, ◌+◌, ◌-◌, ◌*◌, ◌^◌, ◌<◌, ◌≤◌, ◌≡◌, Bool, true, false, not, ◌||◌, ◌==◌, List, [], ◌∷◌, ◌++◌, length, get_or, take, drop, map, reverse, min, bytes_eq, Option, Some, None}
+use Rattle.std.proofs.Common.{arith, ap, cond, add-one, sym, ◌∙◌, refl}
+use Rattle.std.proofs.lemmas.List.{take_more, reverse-append, get_or-map, get_or-reverse, get_or_past}
+use Rattle.std.proofs.Common.{length-map, length-reverse}
+use Rattle.cif_defs.specs.Words.{number, bit_value, bit, word_of, digit}
+use Rattle.cif_defs.proofs.WordLaws.{bit-word, past_word}
+use Rattle.cif_defs.specs.WordText.{word_of_text}
+use Rattle.cif_defs.specs.RawModule.{value_named, bits_named}
+use Rattle.cif_defs.specs.declared.raw_module.RawParam.{RawParam}
+use Rattle.cif_defs.specs.declared.raw_module.ParamValue.{ParamValue}
+use Rattle.cif_defs.specs.declared.raw_module.RawBit.{RawBit}
+use Rattle.cif_defs.specs.declared.raw_module.Connection.{Connection}
+
+pub value_at : (ps : List RawParam) (i : ℕ) (name : List ℕ) (d : RawParam) → i < length ps → bytes_eq (get_or ps i d).name name ≡ true → value_named name (drop i ps) ≡ Some (get_or ps i d).value
+value_at [] i name d h e = absurd (omega arith)
+value_at (p ∷ ps) zero name d h e = ap (λ (b : Bool). cond b (Some p.value) (value_named name ps)) e
+value_at (p ∷ ps) (suc i) name d h e = value_at ps i name d (omega arith) e
+
+value_past_suc : (ps : List RawParam) (i : ℕ) (name : List ℕ) (d : RawParam) → i < length ps → bytes_eq (get_or ps i d).name name ≡ false → value_named name (drop i ps) ≡ value_named name (drop (suc i) ps)
+value_past_suc [] i name d h e = absurd (omega arith)
+value_past_suc (p ∷ ps) zero name d h e = ap (λ (b : Bool). cond b (Some p.value) (value_named name ps)) e
+value_past_suc (p ∷ ps) (suc i) name d h e = value_past_suc ps i name d (omega arith) e
+
+pub value_past : (ps : List RawParam) (i : ℕ) (name : List ℕ) (d : RawParam) → i < length ps → bytes_eq (get_or ps i d).name name ≡ false → value_named name (drop i ps) ≡ value_named name (drop (i + 1) ps)
+value_past ps i name d h e = rw add-one (value_past_suc ps i name d h e)
+
+pub bits_at : (xs : List Connection) (i : ℕ) (name : List ℕ) (d : Connection) → i < length xs → bytes_eq (get_or xs i d).name name ≡ true → bits_named name (drop i xs) ≡ Some (get_or xs i d).bits
+bits_at [] i name d h e = absurd (omega arith)
+bits_at (x ∷ xs) zero name d h e = ap (λ (b : Bool). cond b (Some x.bits) (bits_named name xs)) e
+bits_at (x ∷ xs) (suc i) name d h e = bits_at xs i name d (omega arith) e
+
+bits_past_suc : (xs : List Connection) (i : ℕ) (name : List ℕ) (d : Connection) → i < length xs → bytes_eq (get_or xs i d).name name ≡ false → bits_named name (drop i xs) ≡ bits_named name (drop (suc i) xs)
+bits_past_suc [] i name d h e = absurd (omega arith)
+bits_past_suc (x ∷ xs) zero name d h e = ap (λ (b : Bool). cond b (Some x.bits) (bits_named name xs)) e
+bits_past_suc (x ∷ xs) (suc i) name d h e = bits_past_suc xs i name d (omega arith) e
+
+pub bits_past : (xs : List Connection) (i : ℕ) (name : List ℕ) (d : Connection) → i < length xs → bytes_eq (get_or xs i d).name name ≡ false → bits_named name (drop i xs) ≡ bits_named name (drop (i + 1) xs)
+bits_past xs i name d h e = rw add-one (bits_past_suc xs i name d h e)
+
+-- ---- numbers of texts
+
+word_of_more : (text : List ℕ) (b : ℕ) → word_of_text (text ++ b ∷ []) ≡ (b == 49) ∷ word_of_text text
+word_of_more text b = ap (map (λ x. x == 49)) (reverse-append text (b ∷ []))
+
+pub number_more : (text : List ℕ) (i : ℕ) (d : ℕ) → i < length text → number (word_of_text (take (i + 1) text)) ≡ bit_value (get_or text i d == 49) + 2 * number (word_of_text (take i text))
+number_more text i d h = ap (λ t. number (word_of_text t)) (take_more text i d h) ∙ ap number (word_of_more (take i text) (get_or text i d))
+
+-- ---- digits
+
+length_word_of_text : (text : List ℕ) → length (word_of_text text) ≡ length text
+length_word_of_text text = length-map (reverse text) (λ b. b == 49) ∙ length-reverse text
+
+pub text_digit_at : (text : List ℕ) (i : ℕ) (d : ℕ) → i < length text → bit (word_of_text text) i ≡ (get_or text (length text - 1 - i) d == 49)
+text_digit_at text i d h =
+    let within : i < length (reverse text) = rw length-reverse h in
+    get_or-map (λ b. b == 49) (reverse text) i d false within ∙ ap (λ b. b == 49) (get_or-reverse text i d h)
+
+pub text_digit_past : (text : List ℕ) (i : ℕ) → length text ≤ i → bit (word_of_text text) i ≡ false
+text_digit_past text i h = get_or_past (word_of_text text) i false (rw (length_word_of_text text) h)
