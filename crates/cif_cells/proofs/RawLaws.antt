@@ -1,12 +1,15 @@
 -- What a raw cell gives for a name, found from front to back, and numbers of texts of binary digits.
 use Rattle.std.specs.Prelude.{ℕ, zero, suc, ◌+◌, ◌-◌, ◌*◌, ◌^◌, ◌<◌, ◌≤◌, ◌≡◌, Bool, true, false, not, ◌||◌, ◌==◌, List, [], ◌∷◌, ◌++◌, length, get_or, take, drop, map, reverse, min, bytes_eq, Option, Some, None}
 use Rattle.std.proofs.Common.{arith, ap, cond, add-one, sym, ◌∙◌, refl}
-use Rattle.std.proofs.lemmas.List.{take_more, reverse-append, get_or-map, get_or-reverse, get_or_past}
-use Rattle.std.proofs.Common.{length-map, length-reverse}
+use Rattle.std.proofs.lemmas.List.{take_more, reverse-append, get_or-map, get_or-reverse, get_or_past, length-map, length-reverse}
 use Rattle.cif_defs.specs.Words.{number, bit_value, bit, word_of, digit}
 use Rattle.cif_defs.proofs.WordLaws.{bit-word, past_word}
 use Rattle.cif_defs.specs.WordText.{word_of_text}
-use Rattle.cif_defs.specs.RawModule.{value_named, bits_named}
+use Rattle.std.specs.Prelude.{ℤ, pos, negsuc, ◌≤ℤ◌, unsigned_abs}
+use Rattle.std.proofs.lemmas.Int.{ints}
+use Rattle.std.proofs.Math.Pow.{pow_mono}
+use Rattle.std.proofs.Math.Nat.{mul-le-mul_right}
+use Rattle.cif_defs.specs.RawModule.{value_named, bits_named, int_digits}
 use Rattle.cif_defs.specs.declared.raw_module.RawParam.{RawParam}
 use Rattle.cif_defs.specs.declared.raw_module.ParamValue.{ParamValue}
 use Rattle.cif_defs.specs.declared.raw_module.RawBit.{RawBit}
@@ -58,3 +61,15 @@ text_digit_at text i d h =
 
 pub text_digit_past : (text : List ℕ) (i : ℕ) → length text ≤ i → bit (word_of_text text) i ≡ false
 text_digit_past text i h = get_or_past (word_of_text text) i false (rw (length_word_of_text text) h)
+
+pub whole_digit_at : (z : ℤ) (i : ℕ) → i < 32 → pos 0 ≤ℤ z → bit (int_digits z) i ≡ digit (unsigned_abs z) i
+whole_digit_at (pos x) i h p = bit-word 32 (λ k. digit x k) i false h
+whole_digit_at (negsuc x) i h p = absurd (omega (arith, ints))
+
+-- ---- widths
+
+pub blocks_past : (count power : ℕ) → 1 ≤ count → 64 ≤ power → 2 ^ 64 ≤ count * 2 ^ power
+blocks_past count power one many =
+    let at_64 : 2 ^ 64 ≤ 2 ^ power = pow_mono many in
+    let grown : 1 * 2 ^ power ≤ count * 2 ^ power = mul-le-mul_right (2 ^ power) one in
+    omega arith
