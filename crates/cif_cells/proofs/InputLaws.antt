@@ -10,7 +10,7 @@ use Rattle.std.proofs.lemmas.List.Folds.{list_any-append}
 use Rattle.cif_defs.specs.RawModule.{nets_in}
 use Rattle.cif_defs.specs.Accepted.{is_input}
 use Rattle.cif_defs.specs.declared.raw_module.RawBit.{RawBit}
-use Rattle.cif_defs.specs.declared.raw_module.RawBit.TheVariants.{Net}
+use Rattle.cif_defs.specs.declared.raw_module.RawBit.TheVariants.{Net, Zero, One, X, Z}
 use Rattle.cif_defs.specs.declared.raw_module.RawPort.{RawPort}
 use Rattle.cif_cells.specs.declared.fault.Spot.TheVariants.{Port}
 use Rattle.cif_cells.specs.declared.fault.BuildFault.{BuildFault}
@@ -33,7 +33,7 @@ or_moved false true c = refl
 or_moved false false c = refl
 
 -- what a set holds, by its keys
-contains_number : (keys : List ℕ) (x : ℕ) → list_any (λ k. is_eq (nat_cmp x k)) keys ≡ has_number x keys
+pub contains_number : (keys : List ℕ) (x : ℕ) → list_any (λ k. is_eq (nat_cmp x k)) keys ≡ has_number x keys
 contains_number [] x = refl
 contains_number (k ∷ ks) x =
     ap (λ b. b || list_any (λ k. is_eq (nat_cmp x k)) ks) (unsigned_tied x k ∙ eqb_swap x k) ∙ ap (λ b. (k == x) || b) (contains_number ks x)
@@ -88,6 +88,17 @@ clash_found bs i x d old h e found =
     ap (input_clash old) (nets_at bs i x d h e)
     ∙ ap (λ b. fault_if b (PortClash x) else_by input_clash (x ∷ old) (nets_in (drop (i + 1) bs))) found
 
+other_bit : (b : RawBit) (rest : List RawBit) → ((x : ℕ) → b ≡ Net x → ⊥) → nets_in (b ∷ rest) ≡ nets_in rest
+other_bit (Net x) rest h = absurd (h x refl)
+other_bit Zero rest h = refl
+other_bit One rest h = refl
+other_bit X rest h = refl
+other_bit Z rest h = refl
+
+-- a bit that is no net number adds none
+pub no_net : (bs : List RawBit) (i : ℕ) (d : RawBit) → i < length bs → ((x : ℕ) → get_or bs i d ≡ Net x → ⊥) → nets_in (drop (i + 1) bs) ≡ nets_in (drop i bs)
+no_net bs i d h other = sym (at_drop_more nets_in bs i d h ∙ other_bit (get_or bs i d) (drop (i + 1) bs) other)
+
 -- ---- one step of the loop over ports
 
 same_port : (p : RawPort) (s t : List ℕ) → HoldSame s t → port_fault s p ≡ port_fault t p
@@ -105,9 +116,10 @@ same_ports (p ∷ ps) s t h =
     ap (λ o. o else_by ports_fault_from (seen_after s p) ps) (same_port p s t h)
     ∙ ap (λ o. port_fault t p else_by o) (same_ports ps (seen_after s p) (seen_after t p) (same_after (is_input p) (nets_in p.bits) s t h))
 
-pub ports_step : (ps : List RawPort) (i : ℕ) (d : RawPort) (old new : List ℕ) → i < length ps → port_fault old (get_or ps i d) ≡ None → HoldSame new (seen_after old (get_or ps i d))
+pub ports_step : (ps : List RawPort) (i : ℕ) (p : RawPort) (old new : List ℕ) → i < length ps → p ≡ get_or ps i p → port_fault old p ≡ None → HoldSame new (seen_after old p)
     → ports_fault_from old (drop i ps) ≡ ports_fault_from new (drop (i + 1) ps)
-ports_step ps i d old new h none same =
-    at_drop_more (ports_fault_from old) ps i d h
-    ∙ ap (λ o. o else_by ports_fault_from (seen_after old (get_or ps i d)) (drop (i + 1) ps)) none
-    ∙ sym (same_ports (drop (i + 1) ps) new (seen_after old (get_or ps i d)) same)
+ports_step ps i p old new h e none same =
+    at_drop_more (ports_fault_from old) ps i p h
+    ∙ ap (λ q. ports_fault_from old (q ∷ drop (i + 1) ps)) (sym e)
+    ∙ ap (λ o. o else_by ports_fault_from (seen_after old p) (drop (i + 1) ps)) none
+    ∙ sym (same_ports (drop (i + 1) ps) new (seen_after old p) same)
