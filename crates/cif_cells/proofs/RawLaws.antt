@@ -3,13 +3,20 @@ use Rattle.std.specs.Prelude.{ℕ, zero, suc, ◌+◌, ◌-◌, ◌*◌, ◌^◌
 use Rattle.std.proofs.Common.{arith, ap, cond, add-one, sym, ◌∙◌, refl}
 use Rattle.std.proofs.lemmas.List.{take_more, reverse-append, get_or-map, get_or-reverse, get_or_past, length-map, length-reverse}
 use Rattle.cif_defs.specs.Words.{number, bit_value, bit, word_of, digit}
-use Rattle.cif_defs.proofs.WordLaws.{bit-word, past_word}
+use Rattle.cif_defs.proofs.WordLaws.{bit-word, length-word}
 use Rattle.cif_defs.specs.WordText.{word_of_text}
 use Rattle.std.specs.Prelude.{ℤ, pos, negsuc, ◌≤ℤ◌, unsigned_abs}
 use Rattle.std.proofs.lemmas.Int.{ints}
 use Rattle.std.proofs.Math.Pow.{pow_mono}
 use Rattle.std.proofs.Math.Nat.{mul-le-mul_right}
-use Rattle.cif_defs.specs.RawModule.{value_named, bits_named, int_digits}
+use Rattle.cif_defs.specs.RawModule.{value_named, bits_named, int_digits, below_limit, below_limit_int, is_binary, needed_number}
+use Rattle.std.specs.Prelude.{◌<ℤ◌, unwrap_or, option_and_then, if◌then◌else◌}
+use Rattle.std.proofs.lemmas.Bool.Decides.{nat_tests}
+use Rattle.cif_defs.specs.Table.{param_text}
+use Rattle.cif_defs.specs.declared.kinds.Param.{Param}
+use Rattle.cif_defs.specs.declared.raw_module.RawCell.{RawCell}
+use Rattle.cif_defs.specs.declared.raw_module.ParamValue.TheVariants.{Text, Number}
+use Rattle.cif_cells.specs.Checks.{number_or_0}
 use Rattle.cif_defs.specs.declared.raw_module.RawParam.{RawParam}
 use Rattle.cif_defs.specs.declared.raw_module.ParamValue.{ParamValue}
 use Rattle.cif_defs.specs.declared.raw_module.RawBit.{RawBit}
@@ -73,3 +80,41 @@ blocks_past count power one many =
     let at_64 : 2 ^ 64 ≤ 2 ^ power = pow_mono many in
     let grown : 1 * 2 ^ power ≤ count * 2 ^ power = mul-le-mul_right (2 ^ power) one in
     omega arith
+
+-- ---- numbers are below 2 ^ 32
+
+below_limit_small : (x : ℕ) → unwrap_or (below_limit x) 0 < 4294967296
+below_limit_small x = grind (arith, nat_tests)
+
+int_small : (z : ℤ) → unwrap_or (below_limit_int z) 0 < 4294967296
+int_small (pos x) = below_limit_small x
+int_small (negsuc x) = omega arith
+
+text_small : (b : Bool) (x : ℕ) → unwrap_or (if b then below_limit x else None) 0 < 4294967296
+text_small true x = below_limit_small x
+text_small false x = omega arith
+
+needed_small : (v : ParamValue) → unwrap_or (needed_number v) 0 < 4294967296
+unfolding needed_number
+needed_small (Text text) = text_small (is_binary text) (number (word_of_text text))
+needed_small (Number z) = int_small z
+
+given_small : (o : Option ParamValue) → unwrap_or (option_and_then needed_number o) 0 < 4294967296
+given_small None = omega arith
+given_small (Some v) = needed_small v
+
+pub number_small : (c : RawCell) (p : Param) → number_or_0 c p < 4294967296
+number_small c p = given_small (value_named (param_text p) c.parameters)
+
+pub count_of_text : (text : List ℕ) → length (word_of_text text) ≡ length text
+count_of_text text = length_word_of_text text
+
+pub count_of_number : (z : ℤ) → pos 0 ≤ℤ z → length (int_digits z) ≡ 32
+count_of_number (pos x) h = length-word 32 (λ k. digit x k)
+count_of_number (negsuc x) h = absurd (omega (arith, ints))
+
+pub count_of_negative : (z : ℤ) → z <ℤ pos 0 → length (int_digits z) ≡ 0
+count_of_negative (pos x) h = absurd (omega (arith, ints))
+count_of_negative (negsuc x) h = refl
+
+pub ruleset counts_of_digits = (count_of_text, count_of_number, count_of_negative)

@@ -3,6 +3,7 @@ ghost use Rattle.std.specs.Prelude.{◌≡◌, ◌<◌, ◌≤◌, ◌+◌, ◌*
 ghost use Rattle.std.specs.List.{list_all};
 ghost use Rattle.cif_defs.specs.Words.{bit, number as number_of_word};
 ghost use Rattle.cif_defs.specs.WordText.{word_of_text, is_no_digit};
+ghost use Rattle.cif_defs.specs.Table.{param_text};
 ghost use Rattle.cif_defs.specs.RawModule.{value_named as value_by_name, bits_named as bits_by_name, is_binary as is_binary_text, below_limit_int as limited, int_digits, needed_number as needed_number_of, digits_read, number_given as number_of_cell, digits_given, connected as connected_bits, port_bits as bits_of_port};
 
 ghost use Rattle.cif_cells.specs.Checks.{number_or_0 as number_or_0_of, row_width as row_width_of};
@@ -72,7 +73,7 @@ fn limited_number(text: &[u8]) -> u64
 }
 
 /// A whole number, where it is one from 0 on below the limit.
-fn number_below_limit(number: i128) -> Option<u64>
+pub fn number_below_limit(number: i128) -> Option<u64>
     ensures { result ≡ limited number }
 {
     if 0 <= number && number < 4_294_967_296 {
@@ -100,20 +101,28 @@ fn needed_number(value: &ParamValue) -> Option<u64>
     }
 }
 
+/// The value that a cell gives for a parameter.
+pub fn value_given<'a>(cell: &'a RawCell, param: Param) -> Option<&'a ParamValue>
+    ensures { option_map (λ v. v.now) result ≡ value_by_name (param_text param) cell.now.parameters }
+{
+    value_named(cell.parameters.items(), table::param_name(param).as_bytes())
+}
+
 /// The number that a cell gives for a parameter; None where it gives none below 2 to the 32.
 pub fn number_given(cell: &RawCell, param: Param) -> Option<u64>
     ensures { result ≡ number_of_cell cell.now param }
 {
-    let name = table::param_name(param).as_bytes();
-    match value_named(cell.parameters.items(), name) {
+    match value_given(cell, param) {
         Some(value) => needed_number(value),
         None => None,
     }
 }
 
 /// The number that a cell gives for a parameter, or 0 where it gives none.
+#[tactic(auto, using(crate::proofs::RawLaws::number_small))]
 pub fn number_or_0(cell: &RawCell, param: Param) -> u64
-    ensures { result ≡ number_or_0_of cell.now param }
+    ensures is { result ≡ number_or_0_of cell.now param }
+    ensures below_limit { result < 4294967296 }
 {
     number_given(cell, param).unwrap_or(0)
 }
@@ -140,9 +149,26 @@ fn whole_digit(number: i128, index: u64) -> bool
     (number.unsigned_abs() >> index) % 2 == 1
 }
 
+/// How many digits a value has.
+#[tactic(auto, using(crate::proofs::RawLaws::counts_of_digits), unfolding(cif_defs::specs::RawModule::digits_read))]
+pub fn digit_count(value: &ParamValue) -> u64
+    ensures { result ≡ length (digits_read value.now) }
+{
+    match value {
+        ParamValue::Text(text) => text.items().len() as u64,
+        ParamValue::Number(number) => {
+            if *number < 0 {
+                0
+            } else {
+                32
+            }
+        }
+    }
+}
+
 /// Digit `index` of a value, lowest first, where x, z and missing digits are 0.
 #[tactic(auto, unfolding(cif_defs::specs::RawModule::digits_read))]
-fn value_digit(value: &ParamValue, index: u64) -> bool
+pub fn value_digit(value: &ParamValue, index: u64) -> bool
     ensures { result ≡ bit (digits_read value.now) index }
 {
     match value {
@@ -155,8 +181,7 @@ fn value_digit(value: &ParamValue, index: u64) -> bool
 pub fn digit_given(cell: &RawCell, param: Param, index: u64) -> bool
     ensures { result ≡ bit (digits_given cell.now param) index }
 {
-    let name = table::param_name(param).as_bytes();
-    match value_named(cell.parameters.items(), name) {
+    match value_given(cell, param) {
         Some(value) => value_digit(value, index),
         None => false,
     }
