@@ -1,3 +1,4 @@
 pub mod CellView
 pub mod Checks
+pub mod InputNumbers
 pub mod NetlistView

@@ -1,5 +1,6 @@
 // Why a raw module isn't accepted.
 use cif_defs::Name;
+use std::alloc::AllocError;
 
 /// A port of the module, or of a cell.
 #[derive(Debug, Drop)]
@@ -52,4 +53,15 @@ pub enum BuildFault {
     PortClash(u64),
     #[error("out of memory")]
     Memory,
+}
+
+impl From<AllocError> for BuildFault {
+    ghost use Rattle.std.specs.Prelude.{◌≡◌};
+    ghost use Rattle.cif_cells.specs.declared.fault.BuildFault.TheVariants.{Memory};
+
+    ghost from_gives = { λ _ e. e ≡ Memory };
+
+    fn from(_e: AllocError) -> Self {
+        BuildFault::Memory
+    }
 }

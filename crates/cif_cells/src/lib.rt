@@ -4,6 +4,8 @@
 mod cell;
 mod fault;
 mod netlist;
+mod raw_access;
+mod ports;
 pub mod table;
 
 pub use cell::{Cell, Digits, Given, Sources, Targets};
