@@ -47,6 +47,8 @@ impl Netlist {
     pub fn cells(&self) -> &[Cell]
         ensures are { result.now ≡ (netlist_of self.now).cells }
         ensures few { length result.now ≤ 400000 }
+        ensures accepted { IsAccepted self.now }
+        ensures wired { IsWired (netlist_of self.now) }
     {
         &self.cells
     }

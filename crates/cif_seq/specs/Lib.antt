@@ -1,0 +1,4 @@
+pub mod Rules
+pub mod CellWords
+pub mod Writes
+pub mod Settled

@@ -1,0 +1,31 @@
+// Words written to the net bits that a cell's outputs drive.
+ghost use Rattle.std.specs.Prelude.{◌≡◌};
+ghost use Rattle.cif_seq.specs.Writes.{put_word, put_words};
+
+use crate::cell::operand_of;
+use crate::gather::Word;
+use crate::rules::bit_of;
+use cif_cells::{NetBit, Targets};
+
+/// Writes a word to the net bits of one output; a bit that `marks` has is written as 0.
+fn write_word(bits: &mut [bool], marks: &[bool], targets: &[Option<NetBit>], word: &[bool])
+    ensures { bits.new ≡ put_word marks.now targets.now word.now bits.old }
+{
+    for i in 0..targets.len() {
+        if let Some(net) = targets[i] {
+            if (net as usize) < bits.len() {
+                bits[net as usize] = !bit_of(marks, net as usize) & bit_of(word, i);
+            }
+        }
+    }
+}
+
+/// Writes the words of a cell to the net bits that its outputs drive; a bit that `marks` has is written as 0.
+pub fn write_words(bits: &mut [bool], marks: &[bool], outputs: &[Targets], words: &[Word])
+    ensures { bits.new ≡ put_words marks.now outputs.now words.now bits.old }
+{
+    for port in 0..outputs.len() {
+        let targets = &outputs[port];
+        write_word(bits, marks, targets.items(), operand_of(words, port));
+    }
+}
