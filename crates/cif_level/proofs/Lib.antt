@@ -1,0 +1,4 @@
+pub mod Driving
+pub mod Outputs
+pub mod Rings
+pub mod Searches
