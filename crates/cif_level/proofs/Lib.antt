@@ -2,3 +2,4 @@ pub mod Driving
 pub mod Outputs
 pub mod Rings
 pub mod Searches
+pub mod Kept

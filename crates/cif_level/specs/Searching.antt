@@ -12,6 +12,11 @@ use Rattle.cif_level.specs.declared.search.Search.{Search}
 use Rattle.cif_level.specs.declared.feeders.Mark.{Mark}
 use Rattle.cif_level.specs.declared.feeders.Mark.TheVariants.{Unseen, OnPath, Placed}
 
+-- the last number of a list
+pub record IsLast (xs : List ℕ) (x : ℕ) : Type 0 where
+  pub not_empty : 0 < length xs
+  pub is : get_or xs (length xs - 1) 0 ≡ x
+
 -- a loop that is named is one; want of memory says nothing of the netlist
 abbrev pub IsReal : Netlist → LevelFault → Type 0
 IsReal n (Loop cells) = IsLoop n cells

@@ -25,7 +25,7 @@ fn least_place(numbers: &[u32]) -> usize
 }
 
 /// The part of a path from a cell on.
-pub(crate) fn from_cell(path: &[u32], cell: u32) -> &[u32]
+fn from_cell(path: &[u32], cell: u32) -> &[u32]
     requires { (i : ℕ) × (i < length path.now) × (get_or path.now i 0 ≡ cell) }
     ensures { (i : ℕ) × (i < length path.now) × (get_or path.now i 0 ≡ cell) × (result.now ≡ drop i path.now) }
 {
@@ -38,7 +38,7 @@ pub(crate) fn from_cell(path: &[u32], cell: u32) -> &[u32]
 }
 
 /// The loop of a ring, in which each cell is driven by the next, and the last by the first.
-pub(crate) fn loop_of(alloc: Global, netlist: &Netlist, ring: &[u32]) -> Result<Places, AllocError>
+fn loop_of(alloc: Global, netlist: &Netlist, ring: &[u32]) -> Result<Places, AllocError>
     requires { IsRing (netlist_of netlist.now) ring.now }
     ensures { IfOk result (IsLoop (netlist_of netlist.now)) }
 {
@@ -47,4 +47,18 @@ pub(crate) fn loop_of(alloc: Global, netlist: &Netlist, ring: &[u32]) -> Result<
     cells.rotate_left(least + 1);
     cells.reverse();
     Ok(Listed::of(cells))
+}
+
+/// The loop that a cell of a path closes, where it drives the path's last cell.
+pub(crate) fn closed_loop(
+    alloc: Global,
+    netlist: &Netlist,
+    path: &[u32],
+    cell: u32,
+) -> Result<Places, AllocError>
+    requires on_path { (i : ℕ) × (i < length path.now) × (get_or path.now i 0 ≡ cell) }
+    requires rings { (i : ℕ) → i < length path.now → get_or path.now i 0 ≡ cell → IsRing (netlist_of netlist.now) (drop i path.now) }
+    ensures { IfOk result (IsLoop (netlist_of netlist.now)) }
+{
+    loop_of(alloc, netlist, from_cell(path, cell))
 }
