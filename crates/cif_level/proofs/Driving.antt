@@ -1,7 +1,7 @@
 -- Feeders and driving: where the drivers are wired, the cells that feed a cell are those that drive it.
-use Rattle.std.specs.Prelude.{ℕ, zero, suc, ◌+◌, ◌*◌, ◌/◌, ◌%◌, ◌<◌, ◌≡◌, Bool, true, false, Option, Some, None, refl}
-use Rattle.std.proofs.Common.{arith, sym, ap, subst, ◌∙◌, cond, inl, inr}
-use Rattle.cif_defs.specs.Cells.{Cell, width}
+use Rattle.std.specs.Prelude.{ℕ, ◌+◌, ◌*◌, ◌/◌, ◌%◌, ◌<◌, ◌≡◌, Bool, true, false, Option, Some, None, refl}
+use Rattle.std.proofs.Common.{arith, sym, ap, subst, ◌∙◌, cond, inr}
+use Rattle.cif_defs.specs.Cells.{width}
 use Rattle.cif_defs.specs.Loop.{Drives, is_passing, counts}
 use Rattle.cif_defs.specs.Netlist.{Netlist, IsWired, cell_at, driver_of, role_at, output_at, operand_at}
 use Rattle.cif_defs.specs.declared.kinds.Role.{Role}
@@ -65,7 +65,7 @@ by_passes n b (Register c j) x e w h =
     let both : (is_passing (role_at n c) ≡ true) × (c ≡ x) = some_if (is_passing (role_at n c)) c x h in
     ap (λ (y : ℕ). is_passing (role_at n y)) (sym both.1) ∙ both.0
 
-pub feeder_passes : (n : Netlist) (s : Src) (x : ℕ) → IsWired n → feeder_of n s ≡ Some x → is_passing (role_at n x) ≡ true
+feeder_passes : (n : Netlist) (s : Src) (x : ℕ) → IsWired n → feeder_of n s ≡ Some x → is_passing (role_at n x) ≡ true
 unfolding feeder_of
 feeder_passes n (Bit b) x w h = by_passes n b (driver_of n b) x refl w h
 feeder_passes n Zero x w h = absurd (cc)

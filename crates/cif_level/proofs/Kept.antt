@@ -1,19 +1,20 @@
 -- What each step of the search keeps.
-use Rattle.std.specs.Prelude.{ℕ, zero, suc, ◌+◌, ◌-◌, ◌<◌, ◌≤◌, ◌≡◌, ◌⊎◌, Bool, true, false, IsTrue, ◌↔◌, List, [], ◌∷◌, ◌++◌, length, get_or, set, take, drop, replicate, sum_by, Option, Some, None, refl}
+use Rattle.std.specs.Prelude.{ℕ, suc, ◌+◌, ◌-◌, ◌<◌, ◌≡◌, ◌⊎◌, Bool, true, false, IsTrue, ◌↔◌, List, [], ◌∷◌, ◌++◌, length, get_or, set, drop, sum_by, Option, Some, refl}
 use Rattle.std.proofs.Common.{arith, sym, ap, subst, ◌∙◌, inl, inr}
 use Rattle.std.proofs.lemmas.Bool.{cases_lt, cases_eq}
-use Rattle.std.proofs.lemmas.List.{get_or_append_left, get_or_push, get_or-set_same, get_or-set_other, get_or_past, get_or-drop, get_or-replicate, take_more, take_all, length_push, length-set, length-drop, length-replicate}
+use Rattle.std.proofs.lemmas.List.{get_or_append_left, get_or_push, get_or-set_same, get_or-set_other, get_or-drop, length_push, length-set, length-drop}
 use Rattle.std.proofs.lemmas.List.Sums.{sum_by-set}
-use Rattle.cif_defs.specs.Loop.{Drives, IsLevelled, is_passing}
+use Rattle.cif_defs.specs.Loop.{Drives, IsLevelled, IsLoop, is_passing}
 use Rattle.cif_defs.specs.Netlist.{Netlist, IsWired, role_at}
 use Rattle.cif_defs.proofs.Orders.{in_range}
 use Rattle.cif_level.specs.declared.feeders.OperandPlace.{OperandPlace}
 use Rattle.cif_level.specs.declared.feeders.Mark.{Mark}
 use Rattle.cif_level.specs.declared.feeders.Mark.TheVariants.{Unseen, OnPath, Placed}
 use Rattle.cif_level.specs.Feeding.{feeder_at}
-use Rattle.cif_level.specs.Searching.{mark_of, first_place, place_of, mark_weight, AreBefore, AreAllPlaced, Follows, IsKept, IsLast, IsRing}
+use Rattle.cif_level.specs.Searching.{mark_of, first_place, place_of, mark_weight, AreBefore, AreAllPlaced, Follows, IsKept, IsLast}
+use Rattle.cif_level.specs.Rings.{IsRing, IsClosedBy}
 use Rattle.cif_level.proofs.Driving.{HasOneOutput, drives_feeder, feeder_drives}
-use Rattle.cif_level.proofs.Rings.{same_drives, distinct_from_apart}
+use Rattle.cif_level.proofs.Rings.{same_drives, distinct_from_apart, unwound_loop}
 
 -- ---- lists with one more number
 
@@ -65,42 +66,9 @@ still_before f old new at h b = record {
   bits = λ i x l e. h x (b.bits i x l e);
 }
 
--- ---- the beginning
-
-pub begun : (n : Netlist) (k : ℕ) → k ≡ length n.cells → IsKept n (replicate k Unseen) (replicate k first_place) [] []
-begun n k e =
-    let unseen : (c : ℕ) → mark_of (replicate k Unseen) c ≡ Unseen = λ c. elim (cases_lt c k) [
-      | inl l ↦ get_or-replicate k c Unseen Unseen l
-      | inr l ↦ get_or_past (replicate k Unseen) c Unseen (omega (arith, length-replicate k Unseen))
-    ] in
-    let first : (c : ℕ) → place_of (replicate k first_place) c ≡ first_place = λ c. elim (cases_lt c k) [
-      | inl l ↦ get_or-replicate k c first_place first_place l
-      | inr l ↦ get_or_past (replicate k first_place) c first_place (omega (arith, length-replicate k first_place))
-    ] in
-    record {
-      sized = length-replicate k Unseen ∙ e;
-      places_sized = length-replicate k first_place ∙ e;
-      looked = λ c. subst (λ (at : OperandPlace). AreBefore (feeder_at n c) (replicate k Unseen) at) (sym (first c)) (nothing_before (feeder_at n c) (replicate k Unseen));
-      path_marked = λ i l. absurd (omega arith);
-      order_marked = λ i l. absurd (omega arith);
-      marked_path = λ c h. absurd (let u : mark_of (replicate k Unseen) c ≡ Unseen = unseen c in cc);
-      marked_order = λ c h. absurd (let u : mark_of (replicate k Unseen) c ≡ Unseen = unseen c in cc);
-      path_apart = λ i j l m e. absurd (omega arith);
-      order_apart = λ i j l m e. absurd (omega arith);
-      path_passing = λ i l. absurd (omega arith);
-      order_passing = λ i l. absurd (omega arith);
-      path_driven = λ i l. absurd (omega arith);
-      order_settled = λ j p i x l h. absurd (omega arith);
-    } where
-  nothing_before : (f : ℕ → ℕ → Option ℕ) (marks : List Mark) → AreBefore f marks first_place
-  nothing_before f marks = record {
-    ports = λ p i x l e. absurd (omega arith);
-    bits = λ i x l e. absurd (omega arith);
-  }
-
 -- ---- the place of a cell is moved on
 
-pub looked : (n : Netlist) (marks : List Mark) (places : List OperandPlace) (path order : List ℕ) (c : ℕ) (at : OperandPlace) → IsKept n marks places path order → c < length n.cells → AreBefore (feeder_at n c) marks at
+looked : (n : Netlist) (marks : List Mark) (places : List OperandPlace) (path order : List ℕ) (c : ℕ) (at : OperandPlace) → IsKept n marks places path order → c < length n.cells → AreBefore (feeder_at n c) marks at
     → IsKept n marks (set places c at) path order
 looked n marks places path order c at s l b = record {
   sized = s.sized;
@@ -128,7 +96,7 @@ looked n marks places path order c at s l b = record {
 
 -- ---- a cell is put on the path
 
-pub entered : (n : Netlist) (marks : List Mark) (places : List OperandPlace) (path order : List ℕ) (c : ℕ) → IsKept n marks places path order → mark_of marks c ≡ Unseen → is_passing (role_at n c) ≡ true
+entered : (n : Netlist) (marks : List Mark) (places : List OperandPlace) (path order : List ℕ) (c : ℕ) → IsKept n marks places path order → mark_of marks c ≡ Unseen → is_passing (role_at n c) ≡ true
     → (0 < length path → Drives n c (get_or path (length path - 1) 0)) → IsKept n (set marks c OnPath) places (path ++ c ∷ []) order
 entered n marks places path order c s u p v =
     let long : length marks ≡ length n.cells = s.sized in
@@ -186,7 +154,7 @@ entered n marks places path order c s u p v =
 
 -- ---- the last cell of the path is placed
 
-pub placed : (n : Netlist) (marks : List Mark) (places : List OperandPlace) (rest order : List ℕ) (c : ℕ) → IsKept n marks places (rest ++ c ∷ []) order → AreAllPlaced (feeder_at n c) marks
+placed : (n : Netlist) (marks : List Mark) (places : List OperandPlace) (rest order : List ℕ) (c : ℕ) → IsKept n marks places (rest ++ c ∷ []) order → AreAllPlaced (feeder_at n c) marks
     → IsKept n (set marks c Placed) places rest (order ++ c ∷ [])
 placed n marks places rest order c s a =
     let long : length marks ≡ length n.cells = s.sized in
@@ -238,8 +206,8 @@ placed n marks places rest order c s a =
         | inr q ↦ ap (λ (x : ℕ). is_passing (role_at n x)) q.1 ∙ passes
       ];
       path_driven = λ i l.
-        let il : i < length rest = omega arith in
-        same_drives n (get_or (rest ++ c ∷ []) (suc i) 0) (get_or (rest ++ c ∷ []) i 0) _ _ (sym (push_left rest c (suc i) l)) (sym (push_left rest c i il)) (s.path_driven i (push_below rest c (suc i) l));
+          let il : i < length rest = omega arith in
+          same_drives n (get_or (rest ++ c ∷ []) (suc i) 0) (get_or (rest ++ c ∷ []) i 0) _ _ (sym (push_left rest c (suc i) l)) (sym (push_left rest c i il)) (s.path_driven i (push_below rest c (suc i) l));
       order_settled = λ j p i x l h. elim (push_cases order c j l) [
         | inl q ↦ (
             let jl : j < length order = q.0 in
@@ -257,10 +225,10 @@ placed n marks places rest order c s a =
 
 -- ---- work and marks
 
-pub less_by_mark : (marks : List Mark) (c : ℕ) (k : Mark) → c < length marks → mark_weight k < mark_weight (mark_of marks c) → sum_by mark_weight (set marks c k) < sum_by mark_weight marks
+less_by_mark : (marks : List Mark) (c : ℕ) (k : Mark) → c < length marks → mark_weight k < mark_weight (mark_of marks c) → sum_by mark_weight (set marks c k) < sum_by mark_weight marks
 less_by_mark marks c k l h = omega (arith, sum_by-set mark_weight marks c k Unseen l)
 
-pub follows_set : (marks : List Mark) (c : ℕ) (k : Mark) → c < length marks → (mark_of marks c ≡ Placed → ⊥) → (k ≡ Unseen → ⊥) → Follows marks (set marks c k)
+follows_set : (marks : List Mark) (c : ℕ) (k : Mark) → c < length marks → (mark_of marks c ≡ Placed → ⊥) → (k ≡ Unseen → ⊥) → Follows marks (set marks c k)
 follows_set marks c k l ne nu = record {
   placed = λ x h. stays_placed marks c x k l ne h;
   seen = λ x h. elim (set_cases marks c x k l) [
@@ -279,16 +247,16 @@ kept_levelled n marks places path order w o s all = record {
   in_range = λ i l. in_range n (get_or order i 0) (s.order_passing i l);
   distinct = distinct_from_apart order s.order_apart;
   after_drivers = λ i j l m v.
-    let at = s.order_settled j v.operand v.to (get_or order i 0) m (drives_feeder n (get_or order i 0) (get_or order j 0) v w o) in
-    let below : at.0 < j = at.1 in
-    elim (cases_lt i j) [
-      | inl h ↦ h
-      | inr h ↦ absurd (s.order_apart at.0 i (omega arith) l at.2)
-    ];
+      let at = s.order_settled j v.operand v.to (get_or order i 0) m (drives_feeder n (get_or order i 0) (get_or order j 0) v w o) in
+      let below : at.0 < j = at.1 in
+      elim (cases_lt i j) [
+        | inl h ↦ h
+        | inr h ↦ absurd (s.order_apart at.0 i (omega arith) l at.2)
+      ];
 }
 
 -- a part of the path from cell x on, where x drives the last cell
-pub path_ring : (n : Netlist) (marks : List Mark) (places : List OperandPlace) (path order : List ℕ) (x k : ℕ) → IsKept n marks places path order → k < length path → get_or path k 0 ≡ x
+path_ring : (n : Netlist) (marks : List Mark) (places : List OperandPlace) (path order : List ℕ) (x k : ℕ) → IsKept n marks places path order → k < length path → get_or path k 0 ≡ x
     → Drives n x (get_or path (length path - 1) 0) → IsRing n (drop k path)
 path_ring n marks places path order x k s l e v =
     let long : length (drop k path) ≡ length path - k = length-drop k path in
@@ -298,12 +266,12 @@ path_ring n marks places path order x k s l e v =
       passing = λ i m. ap (λ (y : ℕ). is_passing (role_at n y)) (at i) ∙ s.path_passing (k + i) (omega arith);
       apart = λ i j m q f. s.path_apart (k + i) (k + j) (omega arith) (omega arith) (sym (at i) ∙ f ∙ at j);
       driven = λ i m.
-        let step : k + suc i ≡ suc (k + i) = omega arith in
-        same_drives n (get_or path (suc (k + i)) 0) (get_or path (k + i) 0) _ _ (at (suc i) ∙ ap (λ j. get_or path j 0) step) (at i) (s.path_driven (k + i) (omega arith));
+          let step : k + suc i ≡ suc (k + i) = omega arith in
+          same_drives n (get_or path (suc (k + i)) 0) (get_or path (k + i) 0) _ _ (at (suc i) ∙ ap (λ j. get_or path j 0) step) (at i) (s.path_driven (k + i) (omega arith));
       closed =
-        let first : k + 0 ≡ k = omega arith in
-        let last : k + (length (drop k path) - 1) ≡ length path - 1 = omega arith in
-        same_drives n x (get_or path (length path - 1) 0) _ _ (at 0 ∙ ap (λ j. get_or path j 0) first ∙ e) (at (length (drop k path) - 1) ∙ ap (λ j. get_or path j 0) last) v;
+          let first : k + 0 ≡ k = omega arith in
+          let last : k + (length (drop k path) - 1) ≡ length path - 1 = omega arith in
+          same_drives n x (get_or path (length path - 1) 0) _ _ (at 0 ∙ ap (λ j. get_or path j 0) first ∙ e) (at (length (drop k path) - 1) ∙ ap (λ j. get_or path j 0) last) v;
     }
 
 -- ---- the steps of the code, by what each leaves
@@ -315,12 +283,6 @@ cell_known n marks places path order c s l =
 
 pub feed_known : (n : Netlist) (d p i x : ℕ) → IsWired n → feeder_at n d p i ≡ Some x → x < length n.cells
 feed_known n d p i x w h = in_range n x (feeder_drives n d p i x w h).passing
-
-pub last_split : (xs : List ℕ) (x : ℕ) → IsLast xs x → (rest : List ℕ) × (xs ≡ rest ++ x ∷ [])
-last_split xs x l =
-    let full : 0 < length xs = l.not_empty in
-    let whole : length xs - 1 + 1 ≡ length xs = omega arith in
-    (take (length xs - 1) xs, sym (take_all (length xs) xs (omega arith)) ∙ ap (λ k. take k xs) (sym whole) ∙ take_more xs (length xs - 1) 0 (omega arith) ∙ ap (λ y. take (length xs - 1) xs ++ y ∷ []) l.is)
 
 mark_left : (k : Mark) → (k ≡ OnPath → ⊥) → (k ≡ Placed → ⊥) → k ≡ Unseen
 mark_left Unseen h q = refl
@@ -338,9 +300,9 @@ followed n marks marks' places places' path path' order order' cell x at w s l b
     let v : Drives n x cell = feeder_drives n cell at.port at.index x w f in
     same_kept n (set marks x OnPath) marks' (set places cell at) places' (path ++ x ∷ []) path' order order' e g h k
     (entered n marks (set places cell at) path order x (looked n marks places path order cell at s (cell_known n marks places path order cell s l) b)
-      (mark_left (mark_of marks x) no_loop unplaced) v.passing (λ full. same_drives n x cell _ _ refl l.is v))
+    (mark_left (mark_of marks x) no_loop unplaced) v.passing (λ full. same_drives n x cell _ _ refl l.is v))
 
-pub loop_rings : (n : Netlist) (marks : List Mark) (places : List OperandPlace) (path order : List ℕ) (cell x p i k : ℕ) → IsWired n → IsKept n marks places path order → IsLast path cell → feeder_at n cell p i ≡ Some x
+loop_rings : (n : Netlist) (marks : List Mark) (places : List OperandPlace) (path order : List ℕ) (cell x p i k : ℕ) → IsWired n → IsKept n marks places path order → IsLast path cell → feeder_at n cell p i ≡ Some x
     → k < length path → get_or path k 0 ≡ x → IsRing n (drop k path)
 loop_rings n marks places path order cell x p i k w s l f inside e =
     path_ring n marks places path order x k s inside e (same_drives n x cell _ _ refl l.is (feeder_drives n cell p i x w f))
@@ -372,34 +334,12 @@ last_on_path n marks places path order c s l =
     let full : 0 < length path = l.not_empty in
     ap (mark_of marks) (sym l.is) ∙ s.path_marked (length path - 1) (omega arith)
 
-pub follows_on : (a b c : List Mark) → Follows a b → Follows b c → Follows a c
-follows_on a b c f g = record {
-  placed = λ x h. g.placed x (f.placed x h);
-  seen = λ x h. f.seen x (g.seen x h);
-}
-
-pub follows_same : (a b : List Mark) → b ≡ a → Follows a b
-follows_same a b e = record {
-  placed = λ x h. ap (λ (m : List Mark). mark_of m x) e ∙ h;
-  seen = λ x h. ap (λ (m : List Mark). mark_of m x) (sym e) ∙ h;
-}
-
--- where the path is empty, a cell that was seen is placed
-pub seen_placed : (n : Netlist) (marks : List Mark) (places : List OperandPlace) (path order : List ℕ) (c : ℕ) → IsKept n marks places path order → path ≡ [] → (mark_of marks c ≡ Unseen → ⊥) → mark_of marks c ≡ Placed
-seen_placed n marks places path order c s empty seen = placed_by (mark_of marks c) refl seen where
-  placed_by : (k : Mark) → mark_of marks c ≡ k → (mark_of marks c ≡ Unseen → ⊥) → mark_of marks c ≡ Placed
-  placed_by Unseen e h = absurd (h e)
-  placed_by OnPath e h = absurd (let at = s.marked_path c e in let inside : at.0 < length path = at.1 in let none : length path ≡ 0 = ap (λ (xs : List ℕ). length xs) empty in omega arith)
-  placed_by Placed e h = e
-
-pub loop_rings_so : (n : Netlist) (marks : List Mark) (places : List OperandPlace) (path path' order : List ℕ) (cell x p i : ℕ) → IsWired n → IsKept n marks places path order → IsLast path cell → feeder_at n cell p i ≡ Some x → path' ≡ path
-    → (k : ℕ) → k < length path' → get_or path' k 0 ≡ x → IsRing n (drop k path')
-loop_rings_so n marks places path path' order cell x p i w s l f e =
-    subst (λ (ys : List ℕ). (k : ℕ) → k < length ys → get_or ys k 0 ≡ x → IsRing n (drop k ys)) (sym e) (λ k m g. loop_rings n marks places path order cell x p i k w s l f m g)
-
--- a cell on the path stands there
-pub stands_on : (n : Netlist) (marks : List Mark) (places : List OperandPlace) (path path' order : List ℕ) (x : ℕ) → IsKept n marks places path order → path' ≡ path → mark_of marks x ≡ OnPath → (i : ℕ) × (i < length path') × (get_or path' i 0 ≡ x)
-stands_on n marks places path path' order x s e h = subst (λ (ys : List ℕ). (i : ℕ) × (i < length ys) × (get_or ys i 0 ≡ x)) (sym e) (s.marked_path x h)
+-- what drives the last cell of the path and stands on it closes a loop
+pub closed_is_loop : (n : Netlist) (marks : List Mark) (places : List OperandPlace) (path path' order cells : List ℕ) (cell x p i : ℕ) → IsWired n → IsKept n marks places path order → IsLast path cell → feeder_at n cell p i ≡ Some x → path' ≡ path
+    → IsClosedBy path' x cells → IsLoop n cells
+closed_is_loop n marks places path path' order cells cell x p i w s l f e h =
+    let k : IsClosedBy path x cells = subst (λ (ys : List ℕ). IsClosedBy ys x cells) e h in
+    unwound_loop n (drop k.place path) cells (loop_rings n marks places path order cell x p i k.place w s l f k.in_range k.is_cell) k.unwound
 
 pub not_so : (b : Bool) (P : Type 0) → b ≡ false → (IsTrue b ↔ P) → P → ⊥
 not_so b P e h p = absurd (let t : b ≡ true = h.1 p in cc)
@@ -409,3 +349,9 @@ path_weight marks c h = let e : mark_weight (mark_of marks c) ≡ 1 = ap mark_we
 
 pub path_unplaced : (marks : List Mark) (c : ℕ) → mark_of marks c ≡ OnPath → mark_of marks c ≡ Placed → ⊥
 path_unplaced marks c h q = absurd (cc)
+
+pub entered_seen : (marks marks' : List Mark) (c : ℕ) → c < length marks → marks' ≡ set marks c OnPath → mark_of marks' c ≡ Unseen → ⊥
+entered_seen marks marks' c l e h = absurd (let on : mark_of marks' c ≡ OnPath = ap (λ (ms : List Mark). mark_of ms c) e ∙ get_or-set_same marks c OnPath Unseen l in cc)
+
+pub unseen_unplaced : (marks : List Mark) (c : ℕ) → mark_of marks c ≡ Unseen → mark_of marks c ≡ Placed → ⊥
+unseen_unplaced marks c h q = absurd (cc)

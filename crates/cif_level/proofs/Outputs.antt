@@ -1,7 +1,7 @@
 -- What an accepted module says of ports: a register or memory has one output, and no cell has many operands.
-use Rattle.std.specs.Prelude.{ℕ, zero, suc, ◌<◌, ◌≤◌, ◌≡◌, ◌==◌, nat_lt, Bool, true, false, ◌||◌, List, [], ◌∷◌, ◌++◌, map, filter, length, get_or, Option, Some, None, option_map, unwrap_or, refl}
+use Rattle.std.specs.Prelude.{ℕ, zero, suc, ◌<◌, ◌≤◌, ◌≡◌, ◌==◌, Bool, true, false, ◌||◌, List, [], ◌∷◌, map, length, get_or, Option, Some, None, option_map, unwrap_or, refl}
 use Rattle.std.specs.List.{filter_map, cons_option}
-use Rattle.std.proofs.Common.{arith, sym, ap, subst, ◌∙◌, cond}
+use Rattle.std.proofs.Common.{arith, ap, cond}
 use Rattle.std.proofs.lemmas.Bool.Decides.{nat_tests}
 use Rattle.std.proofs.lemmas.List.{get_or_past, length-map}
 use Rattle.cif_defs.specs.Kinds.{role_of}
@@ -9,7 +9,7 @@ use Rattle.cif_defs.specs.Cells.{Cell, number_in, width}
 use Rattle.cif_defs.specs.RawModule.{number_given, net_numbers, port_bits}
 use Rattle.cif_defs.specs.Table.{kind_of, parameters_of, outputs_of, operands_of, is_built}
 use Rattle.cif_defs.specs.Accepted.{netlist_of, cell_of, cell_by, target, source, numbers_of}
-use Rattle.cif_defs.specs.Netlist.{Netlist, no_cell, cell_at, role_at, output_at}
+use Rattle.cif_defs.specs.Netlist.{no_cell, cell_at, output_at}
 use Rattle.cif_defs.specs.declared.kinds.Role.{Role}
 use Rattle.cif_defs.specs.declared.kinds.Role.TheVariants.{Combinational, PlainRegister, ResetRegister, MemoryBlock, CarriedOver}
 use Rattle.cif_defs.specs.declared.kinds.Kind.{Kind}
@@ -17,7 +17,6 @@ use Rattle.cif_defs.specs.declared.kinds.Kind.TheVariants.{Dff, Dffe, Sdff, Sdff
 use Rattle.cif_defs.specs.declared.kinds.Param.{Param}
 use Rattle.cif_defs.specs.declared.kinds.Param.TheVariants.{Width, Size, Offset, Abits, RdPorts, WrPorts}
 use Rattle.cif_defs.specs.declared.kinds.PortRow.{PortRow}
-use Rattle.cif_defs.specs.declared.raw_module.RawBit.{RawBit}
 use Rattle.cif_defs.specs.declared.raw_module.RawCell.{RawCell}
 use Rattle.cif_defs.specs.declared.raw_module.Raw.{Raw}
 use Rattle.cif_cells.specs.Checks.{◌else_by◌, fault_if, first_fault, cell_fault, cell_fault_by, known_cell_fault, counts_fault, ports_fault, cells_fault, drivers_fault, clocks_fault, reads_fault, inits_fault, memory_bits_fault, build_fault, memory_form, has_bad_form, number_or_0, IsAccepted}
@@ -26,7 +25,7 @@ use Rattle.cif_level.proofs.Driving.{HasOneOutput}
 
 -- ---- the cells of a netlist
 
-pub netlist_cell : (ns : List ℕ) (cs : List RawCell) (c : ℕ) (P : Cell → Type 0) → P no_cell → ((rc : RawCell) → P (cell_of ns rc)) → P (get_or (map (cell_of ns) cs) c no_cell)
+netlist_cell : (ns : List ℕ) (cs : List RawCell) (c : ℕ) (P : Cell → Type 0) → P no_cell → ((rc : RawCell) → P (cell_of ns rc)) → P (get_or (map (cell_of ns) cs) c no_cell)
 netlist_cell ns [] c P none some = none
 netlist_cell ns (rc ∷ cs) zero P none some = some rc
 netlist_cell ns (rc ∷ cs) (suc c) P none some = netlist_cell ns cs c P none some

@@ -1,16 +1,16 @@
 -- Rings: cells of which each drives the one before it. Turned so that the least stands last, and reversed, they are a
 -- loop.
-use Rattle.std.specs.Prelude.{ℕ, zero, suc, ◌+◌, ◌-◌, ◌<◌, ◌≤◌, ◌≡◌, Bool, true, false, List, [], ◌∷◌, ◌++◌, length, get_or, take, drop, reverse, eqb, refl}
-use Rattle.std.proofs.Common.{arith, sym, ap, subst, ◌∙◌, inl, inr}
+use Rattle.std.specs.Prelude.{ℕ, suc, ◌+◌, ◌-◌, ◌<◌, ◌≤◌, ◌≡◌, true, false, List, [], ◌∷◌, ◌++◌, length, get_or, take, drop, reverse, eqb, refl}
+use Rattle.std.proofs.Common.{arith, sym, ap, ◌∙◌, inl, inr}
 use Rattle.std.specs.List.{IsDistinct}
-use Rattle.std.proofs.lemmas.Bool.{cases_lt, cases_eq}
+use Rattle.std.proofs.lemmas.Bool.{cases_lt}
 use Rattle.std.proofs.lemmas.Bool.Decides.{nat_tests}
 use Rattle.std.proofs.lemmas.List.{get_or_default, get_or_append_left, get_or-append_right, get_or-take, get_or-drop, get_or-reverse, length-append, length-take, length-drop, length-reverse}
 use Rattle.std.proofs.lemmas.Map.Keys.{IsDistinct-from_apart}
 use Rattle.cif_defs.specs.Loop.{Drives, DrivesAlong, IsLoop, is_passing}
 use Rattle.cif_defs.specs.Netlist.{Netlist, role_at}
 use Rattle.cif_defs.proofs.Orders.{in_range}
-use Rattle.cif_level.specs.Searching.{IsRing}
+use Rattle.cif_level.specs.Rings.{IsRing, IsUnwound}
 
 pub same_drives : (n : Netlist) (c d c' d' : ℕ) → c' ≡ c → d' ≡ d → Drives n c d → Drives n c' d'
 same_drives n c d c' d' e f v = rw (e, f) v
@@ -20,10 +20,10 @@ same_passing n c c' e h = ap (λ (x : ℕ). is_passing (role_at n x)) e ∙ h
 
 -- ---- turned
 
-abbrev pub turned : List ℕ → ℕ → List ℕ
+abbrev turned : List ℕ → ℕ → List ℕ
 turned xs m = drop m xs ++ take m xs
 
-pub length-turned : (xs : List ℕ) (m : ℕ) → m ≤ length xs → length (turned xs m) ≡ length xs
+length-turned : (xs : List ℕ) (m : ℕ) → m ≤ length xs → length (turned xs m) ≡ length xs
 length-turned xs m h = omega (arith, length-append (drop m xs) (take m xs), length-drop m xs, length-take m xs)
 
 turned_front : (xs : List ℕ) (m i : ℕ) → i + m < length xs → get_or (turned xs m) i 0 ≡ get_or xs (i + m) 0
@@ -40,7 +40,7 @@ turned_back xs m i h l k =
     get_or-append_right (drop m xs) (take m xs) (length xs - m) i 0 front (omega arith) ∙ get_or-take m xs (i - (length xs - m)) 0 inside ∙ ap (λ j. get_or xs j 0) order
 
 -- a place of a turned list is one of the list's
-pub turned_place : (xs : List ℕ) (m i : ℕ) → m ≤ length xs → i < length xs → (j : ℕ) × (j < length xs) × (get_or (turned xs m) i 0 ≡ get_or xs j 0)
+turned_place : (xs : List ℕ) (m i : ℕ) → m ≤ length xs → i < length xs → (j : ℕ) × (j < length xs) × (get_or (turned xs m) i 0 ≡ get_or xs j 0)
 turned_place xs m i h l = elim (cases_lt (i + m) (length xs)) [
   | inl q ↦ (i + m, q, turned_front xs m i q)
   | inr q ↦ (i + m - length xs, omega arith, turned_back xs m i h q l)
@@ -115,7 +115,7 @@ distinct_from_apart xs h = IsDistinct-from_apart eqb xs (λ i j d l k. apart_eqb
     (λ e. h i j l k (let il : i < length xs = omega arith in get_or_default xs i 0 d il ∙ e ∙ get_or_default xs j d 0 k)))
 
 -- a ring turned at m and reversed, where what stands before m is the least
-pub ring_is_loop : (n : Netlist) (xs : List ℕ) (m : ℕ) → IsRing n xs → 0 < m → m ≤ length xs → ((j : ℕ) → j < length xs → get_or xs (m - 1) 0 ≤ get_or xs j 0) → IsLoop n (reverse (turned xs m))
+ring_is_loop : (n : Netlist) (xs : List ℕ) (m : ℕ) → IsRing n xs → 0 < m → m ≤ length xs → ((j : ℕ) → j < length xs → get_or xs (m - 1) 0 ≤ get_or xs j 0) → IsLoop n (reverse (turned xs m))
 ring_is_loop n xs m r h l least =
     let ys : List ℕ = turned xs m in
     let zs : List ℕ = reverse (turned xs m) in
@@ -132,32 +132,32 @@ ring_is_loop n xs m r h l least =
     record {
       not_empty = omega arith;
       in_range = λ i p.
-        let place = turned_place xs m (length xs - 1 - i) l (omega arith) in
-        in_range n (get_or zs i 0) (same_passing n (get_or xs place.0 0) _ (at i (omega arith) ∙ place.2) (r.passing place.0 place.1));
+          let place = turned_place xs m (length xs - 1 - i) l (omega arith) in
+          in_range n (get_or zs i 0) (same_passing n (get_or xs place.0 0) _ (at i (omega arith) ∙ place.2) (r.passing place.0 place.1));
       least_first = λ i p q.
-        let place = turned_place xs m (length xs - 1 - i) l (omega arith) in
-        let same : get_or zs i 0 ≡ get_or xs place.0 0 = at i (omega arith) ∙ place.2 in
-        let low : get_or xs (m - 1) 0 ≤ get_or xs place.0 0 = least place.0 place.1 in
-        let other : get_or zs 0 0 ≡ get_or zs i 0 → ⊥ = apart 0 i p q in
-        omega arith;
+          let place = turned_place xs m (length xs - 1 - i) l (omega arith) in
+          let same : get_or zs i 0 ≡ get_or xs place.0 0 = at i (omega arith) ∙ place.2 in
+          let low : get_or xs (m - 1) 0 ≤ get_or xs place.0 0 = least place.0 place.1 in
+          let other : get_or zs 0 0 ≡ get_or zs i 0 → ⊥ = apart 0 i p q in
+          omega arith;
       distinct = distinct_from_apart zs apart;
       closed = drives_along n (get_or zs 0 0) zs (omega arith)
-        (λ i p.
+          (λ i p.
           let back : length xs - 1 - i ≡ suc (length xs - 1 - suc i) = omega arith in
           same_drives n (get_or ys (suc (length xs - 1 - suc i)) 0) (get_or ys (length xs - 1 - suc i) 0) _ _ (at i (omega arith) ∙ ap (λ k. get_or ys k 0) back) (at (suc i) (omega arith))
           (turned_driven n xs m (length xs - 1 - suc i) r l (omega arith)))
-        (let end : length zs - 1 ≡ length xs - 1 = omega arith in
-         let back : length xs - 1 - (length xs - 1) ≡ 0 = omega arith in
-         let top : length xs - 1 - 0 ≡ length xs - 1 = omega arith in
-         same_drives n (get_or ys 0 0) (get_or ys (length xs - 1) 0) _ _
-         (ap (λ k. get_or zs k 0) end ∙ at (length xs - 1) (omega arith) ∙ ap (λ k. get_or ys k 0) back)
-         (at 0 full ∙ ap (λ k. get_or ys k 0) top)
-         (turned_closed n xs m r h l));
+          (let end : length zs - 1 ≡ length xs - 1 = omega arith in
+          let back : length xs - 1 - (length xs - 1) ≡ 0 = omega arith in
+          let top : length xs - 1 - 0 ≡ length xs - 1 = omega arith in
+          same_drives n (get_or ys 0 0) (get_or ys (length xs - 1) 0) _ _
+          (ap (λ k. get_or zs k 0) end ∙ at (length xs - 1) (omega arith) ∙ ap (λ k. get_or ys k 0) back)
+          (at 0 full ∙ ap (λ k. get_or ys k 0) top)
+          (turned_closed n xs m r h l));
     }
 
--- the same of a list cs that is that
-pub least_first_loop : (n : Netlist) (xs cs : List ℕ) (least : ℕ) → IsRing n xs → least < length xs → ((j : ℕ) → j < length xs → get_or xs least 0 ≤ get_or xs j 0) → cs ≡ reverse (drop (least + 1) xs ++ take (least + 1) xs) → IsLoop n cs
-least_first_loop n xs cs least r l h e =
-    let place : least + 1 - 1 ≡ least = omega arith in
-    let low : (j : ℕ) → j < length xs → get_or xs (least + 1 - 1) 0 ≤ get_or xs j 0 = λ j k. rw place (h j k) in
-    rw e (ring_is_loop n xs (least + 1) r (omega arith) (omega arith) low)
+pub unwound_loop : (n : Netlist) (xs cs : List ℕ) → IsRing n xs → IsUnwound xs cs → IsLoop n cs
+unwound_loop n xs cs r u =
+    let inside : u.least < length xs = u.in_range in
+    let place : u.least + 1 - 1 ≡ u.least = omega arith in
+    let low : (j : ℕ) → j < length xs → get_or xs (u.least + 1 - 1) 0 ≤ get_or xs j 0 = λ j k. rw place (u.is_least j k) in
+    rw u.is (ring_is_loop n xs (u.least + 1) r (omega arith) (omega arith) low)

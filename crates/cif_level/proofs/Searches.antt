@@ -1,5 +1,5 @@
 -- The search: what a step keeps.
-use Rattle.std.specs.Prelude.{ℕ, zero, suc, ◌+◌, ◌<◌, ◌≤◌, ◌≡◌, Bool, true, false, List, [], length, get_or, Option, Some, None, refl}
+use Rattle.std.specs.Prelude.{ℕ, ◌+◌, ◌<◌, ◌≤◌, ◌≡◌, Bool, true, false, List, [], length, get_or, Option, Some, None}
 use Rattle.std.proofs.Common.{arith, sym, ap, subst, ◌∙◌, inl, inr, cond}
 use Rattle.std.proofs.lemmas.Bool.{cases_lt}
 use Rattle.std.proofs.lemmas.List.{get_or_default, get_or_past}
@@ -11,7 +11,7 @@ use Rattle.cif_defs.specs.declared.nets.Src.{Src}
 use Rattle.cif_defs.specs.declared.nets.Src.TheVariants.{Zero}
 use Rattle.cif_level.specs.declared.feeders.OperandPlace.{OperandPlace}
 use Rattle.cif_level.specs.declared.feeders.Mark.{Mark}
-use Rattle.cif_level.specs.declared.feeders.Mark.TheVariants.{Unseen, OnPath, Placed}
+use Rattle.cif_level.specs.declared.feeders.Mark.TheVariants.{Placed}
 use Rattle.cif_level.specs.Feeding.{feeder_of, feeder_at}
 use Rattle.cif_level.specs.Searching.{mark_of, next_port, ArePlaced, AreBefore, AreAllPlaced}
 
@@ -26,7 +26,7 @@ one_more_placed n marks ss from i d old l here = record {
   placed = λ j x f m h. elim (cases_lt j i) [
     | inl q ↦ old.placed j x f q h
     | inr q ↦ (let same : j ≡ i = omega arith in here x (ap (feeder_of n) (get_or_default ss i d Zero l ∙ ap (λ k. get_or ss k Zero) (sym same)) ∙ h))
-  ]
+  ];
 }
 
 -- ---- operands of a cell

@@ -1,6 +1,5 @@
 -- The passing cells that drive operand bits that count.
-use Rattle.std.specs.Prelude.{ℕ, ◌<◌, ◌≡◌, Option, Some, None, if◌then◌else◌}
-use Rattle.cif_defs.specs.Cells.{Cell}
+use Rattle.std.specs.Prelude.{ℕ, Option, Some, None, if◌then◌else◌}
 use Rattle.cif_defs.specs.Loop.{is_passing, counts}
 use Rattle.cif_defs.specs.Netlist.{Netlist, cell_at, driver_of, role_at, operand_at}
 use Rattle.cif_defs.specs.declared.nets.Src.{Src}

@@ -1,5 +1,5 @@
 -- What a search for an order keeps: marks of cells, the path on which it is, and the order so far.
-use Rattle.std.specs.Prelude.{ℕ, suc, ◌+◌, ◌-◌, ◌<◌, ◌≤◌, ◌≡◌, true, List, length, get_or, sum_by, Option, Some, None}
+use Rattle.std.specs.Prelude.{ℕ, suc, ◌+◌, ◌-◌, ◌<◌, ◌≤◌, ◌≡◌, true, List, length, get_or, sum_by, Option, Some}
 use Rattle.cif_defs.specs.Loop.{Drives, IsLoop, is_passing}
 use Rattle.cif_defs.specs.Netlist.{Netlist, role_at}
 use Rattle.cif_level.specs.Feeding.{feeder_of, feeder_at}
@@ -87,11 +87,3 @@ pub record IsFurther (n : Netlist) (old new : Search) : Type 0 where
   pub keeps : Keeps n new
   pub less : work_left new < work_left old
   pub follows : Follows old.marks.items new.marks.items
-
--- cells of which each drives the one before it, and the first drives the last
-pub record IsRing (n : Netlist) (cells : List ℕ) : Type 0 where
-  pub not_empty : 0 < length cells
-  pub passing : (i : ℕ) → i < length cells → is_passing (role_at n (get_or cells i 0)) ≡ true
-  pub apart : (i j : ℕ) → i < j → j < length cells → get_or cells i 0 ≡ get_or cells j 0 → ⊥
-  pub driven : (i : ℕ) → suc i < length cells → Drives n (get_or cells (suc i) 0) (get_or cells i 0)
-  pub closed : Drives n (get_or cells 0 0) (get_or cells (length cells - 1) 0)

@@ -84,9 +84,8 @@ fn bit_feeder(netlist: &Netlist, bit: NetBit) -> Option<u32>
 {
     match netlist.driver(bit) {
         Driver::Output { cell, .. } | Driver::Read { cell, .. } => Some(cell),
-        Driver::Register { cell, .. } if is_passing(role(netlist.cells()[cell as usize].kind())) => {
-            Some(cell)
-        }
+        Driver::Register { cell, .. } if is_passing(role(netlist.cells()[cell as usize].kind())) =>
+            { Some(cell) }
         Driver::Register { .. } | Driver::Input { .. } | Driver::Clock => None,
     }
 }
@@ -120,12 +119,7 @@ fn unplaced_feeder(netlist: &Netlist, marks: &[Mark], source: Src) -> Option<u32
 
 /// The first bit of an operand, from a place on, that a cell drives which isn't placed: its place, and the cell.
 #[tactic(auto, using(crate::proofs::Searches::none_placed, crate::proofs::Searches::one_more_placed))]
-fn next_in(
-    netlist: &Netlist,
-    marks: &[Mark],
-    sources: &[Src],
-    from: usize,
-) -> Option<(usize, u32)>
+fn next_in(netlist: &Netlist, marks: &[Mark], sources: &[Src], from: usize) -> Option<(usize, u32)>
     requires wired { IsWired (netlist_of netlist.now) }
     requires sized { length marks.now ≡ length (netlist_of netlist.now).cells }
     ensures none { result ≡ None → ArePlaced (netlist_of netlist.now) marks.now sources.now from (length sources.now) }
@@ -150,12 +144,7 @@ fn cell_data(netlist: &Netlist, cell: u32) -> &Cell
 }
 
 /// The first bit of an operand of a cell, from a place on, that counts and that a cell drives which isn't placed.
-fn next_in_port(
-    netlist: &Netlist,
-    marks: &[Mark],
-    cell: u32,
-    from: OperandPlace,
-) -> Option<Feed>
+fn next_in_port(netlist: &Netlist, marks: &[Mark], cell: u32, from: OperandPlace) -> Option<Feed>
     requires wired { IsWired (netlist_of netlist.now) }
     requires sized { length marks.now ≡ length (netlist_of netlist.now).cells }
     requires cell_stands { cell < length (netlist_of netlist.now).cells }

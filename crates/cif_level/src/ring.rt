@@ -1,11 +1,8 @@
 // Loops, least cell first.
-ghost use Rattle.std.specs.Prelude.{◌≡◌, ℕ, ◌+◌, ◌<◌, ◌≤◌, length, drop, get_or, slice_index, IfOk};
-ghost use Rattle.cif_defs.specs.Accepted.{netlist_of};
-ghost use Rattle.cif_defs.specs.Loop.{IsLoop};
-ghost use Rattle.cif_level.specs.Searching.{IsRing};
+ghost use Rattle.std.specs.Prelude.{◌≡◌, ℕ, ◌<◌, ◌≤◌, length, drop, get_or, IfOk};
+ghost use Rattle.cif_level.specs.Rings.{IsUnwound, IsClosedBy};
 
 use crate::fault::Places;
-use cif_cells::Netlist;
 use cif_defs::Listed;
 use std::alloc::{AllocError, Global};
 
@@ -37,10 +34,11 @@ fn from_cell(path: &[u32], cell: u32) -> &[u32]
     unreachable!()
 }
 
-/// The loop of a ring, in which each cell is driven by the next, and the last by the first.
-fn loop_of(alloc: Global, netlist: &Netlist, ring: &[u32]) -> Result<Places, AllocError>
-    requires { IsRing (netlist_of netlist.now) ring.now }
-    ensures { IfOk result (IsLoop (netlist_of netlist.now)) }
+/// The cells of a ring, in which each cell is driven by the next and the last by the first: from the least on, each
+/// before the one that it drives.
+fn unwound(alloc: Global, ring: &[u32]) -> Result<Places, AllocError>
+    requires { 0 < length ring.now }
+    ensures { IfOk result (IsUnwound ring.now) }
 {
     let least = least_place(ring);
     let mut cells = Vec::from_slice(alloc, ring)?;
@@ -50,15 +48,9 @@ fn loop_of(alloc: Global, netlist: &Netlist, ring: &[u32]) -> Result<Places, All
 }
 
 /// The loop that a cell of a path closes, where it drives the path's last cell.
-pub(crate) fn closed_loop(
-    alloc: Global,
-    netlist: &Netlist,
-    path: &[u32],
-    cell: u32,
-) -> Result<Places, AllocError>
-    requires on_path { (i : ℕ) × (i < length path.now) × (get_or path.now i 0 ≡ cell) }
-    requires rings { (i : ℕ) → i < length path.now → get_or path.now i 0 ≡ cell → IsRing (netlist_of netlist.now) (drop i path.now) }
-    ensures { IfOk result (IsLoop (netlist_of netlist.now)) }
+pub(crate) fn closed_loop(alloc: Global, path: &[u32], cell: u32) -> Result<Places, AllocError>
+    requires { (i : ℕ) × (i < length path.now) × (get_or path.now i 0 ≡ cell) }
+    ensures { IfOk result (λ cells. IsClosedBy path.now cell cells) }
 {
-    loop_of(alloc, netlist, from_cell(path, cell))
+    unwound(alloc, from_cell(path, cell))
 }

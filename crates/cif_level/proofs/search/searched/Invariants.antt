@@ -10,5 +10,5 @@ abbrev pub invariant-loop-cell : goal.invariant-loop-cell
 invariant-loop-cell l = record {
   keeps : Keeps (netlist_of l.netlist) l.search;
   no_path : l.search.path.items ≡ [];
-  placed : (c : ℕ) → c < l.cell → is_passing (role_at (netlist_of l.netlist) c) ≡ true → mark_of l.search.marks.items c ≡ Placed
+  placed : (c : ℕ) → c < l.cell → is_passing (role_at (netlist_of l.netlist) c) ≡ true → mark_of l.search.marks.items c ≡ Placed;
 }
