@@ -1,0 +1,3 @@
+pub mod MemberLaws
+pub mod Folds
+pub mod NumberLaws
