@@ -1,5 +1,5 @@
 -- What code answers where a reading is defined: the same, but for want of memory.
-use Rattle.std.specs.Prelude.{ℕ, ◌≡◌, List, ◌∷◌, ◌++◌, Some, None, Result, Ok, Err, IsUtf8}
+use Rattle.std.specs.Prelude.{ℕ, ◌≡◌, List, ◌∷◌, ◌++◌, codes, Some, None, Result, Ok, Err, IsUtf8}
 use Rattle.serde_json.specs.Data.{Data}
 use Rattle.serde_json.specs.Read.{read}
 use Rattle.cif_defs.specs.declared.raw_module.Raw.{Raw}
@@ -22,6 +22,18 @@ IsBelow name (At place) (At path) = path ≡ slash ∷ name ++ place
 IsBelow name NoMemory (At path) = ⊥
 IsBelow name misfit NoMemory = Unit {0}
 
+-- the fault of a module with a misfit
+abbrev pub IsFaultOf : Misfit → JsonFault → Type 0
+IsFaultOf (At place) (BadShape path) = path ≡ codes "modules" ++ place
+IsFaultOf misfit Memory = Unit {0}
+IsFaultOf misfit fault = ⊥
+
+-- the fault is what the value of a file comes to; want of memory says nothing of it
+abbrev pub IsFirst : Result Raw JsonFault → JsonFault → Type 0
+IsFirst outcome BadJson = ⊥
+IsFirst outcome Memory = Unit {0}
+IsFirst outcome fault = outcome ≡ Err fault
+
 -- the bytes are UTF-8 and read as d
 abbrev pub ReadsAs : List ℕ → Data → Type 0
 ReadsAs bytes d = IsUtf8 bytes × (read bytes ≡ Some d)
@@ -29,6 +41,12 @@ ReadsAs bytes d = IsUtf8 bytes × (read bytes ≡ Some d)
 -- the bytes have no reading
 abbrev pub HasNoReading : List ℕ → Type 0
 HasNoReading bytes = IsUtf8 bytes → read bytes ≡ None
+
+-- why bytes aren't read as JSON
+abbrev pub IsUnread : List ℕ → JsonFault → Type 0
+IsUnread bytes BadJson = HasNoReading bytes
+IsUnread bytes Memory = Unit {0}
+IsUnread bytes fault = ⊥
 
 -- the bytes are JSON, and what they say comes to this
 abbrev pub ComesTo : List ℕ → Result Raw JsonFault → Type 0

@@ -1,7 +1,9 @@
 -- Which module of a netlist file is read, and what the file stands for.
-use Rattle.std.specs.Prelude.{ℕ, ◌==◌, Bool, true, false, not, List, [], ◌∷◌, ◌++◌, codes, Option, Some, None, option_and_then, ok_or, Result, Ok, Err}
+use Rattle.std.specs.Prelude.{ℕ, ◌==◌, Bool, true, false, not, List, [], ◌∷◌, ◌++◌, codes, Option, Some, None, option_and_then, ok_or, Result, Ok, Err, if◌then◌else◌}
 use Rattle.serde_json.specs.Data.{Data, Members, no_members, member}
-use Rattle.serde_json.specs.Find.{get, as_object}
+use Rattle.serde_json.specs.Find.{get, get_member, as_object}
+use Rattle.cif_defs.specs.Words.{bit_value}
+use Rattle.cif_defs.specs.WordText.{is_no_digit}
 use Rattle.cif_defs.specs.RawModule.{needed_number}
 use Rattle.cif_defs.specs.declared.raw_module.Raw.{Raw}
 use Rattle.cif_json.specs.declared.fault.JsonFault.{JsonFault}
@@ -15,7 +17,11 @@ some_members (member name d ms) = Some (member name d ms)
 
 -- the modules of a file, at least one
 abbrev pub modules_of : Data → Option Members
-modules_of d = option_and_then some_members (option_and_then as_object (get (codes "modules") d))
+modules_of d = option_and_then some_members (option_and_then as_object (option_and_then (get_member (codes "modules")) (as_object d)))
+
+-- the value of a binary digit
+abbrev pub binary_digit : ℕ → Option ℕ
+binary_digit b = if is_no_digit b then None else Some (bit_value (b == 49))
 
 abbrev pub is_nonzero : Option ℕ → Bool
 is_nonzero None = false

@@ -2,39 +2,59 @@
 ghost use Rattle.std.specs.Prelude.{◌≡◌, codes, option_map, option_and_then, string_bytes, length, List, ℕ};
 ghost use Rattle.serde_json.specs.View.{view, members_view};
 ghost use Rattle.cif_defs.specs.declared.raw_module.ParamValue.TheVariants.{Text};
-ghost use Rattle.cif_defs.specs.RawModule.{needed_number as number_needed};
+ghost use Rattle.cif_defs.specs.RawModule.{below_limit_int, needed_number as number_needed};
 ghost use Rattle.cif_json.specs.Shape.{value_of};
-ghost use Rattle.cif_json.specs.Top.{is_top as is_top_module, modules_of, tops_of, only_one, chosen as chosen_of};
+ghost use Rattle.cif_json.specs.Top.{binary_digit as binary_digit_of, is_top as is_top_module, modules_of, tops_of, only_one, chosen as chosen_of};
 
 use crate::member::{Members, object, take};
 use serde_json::Value;
 
+fn binary_digit(byte: u8) -> Option<u64>
+    ensures { result ≡ binary_digit_of byte }
+{
+    match byte {
+        b'0' => Some(0),
+        b'1' => Some(1),
+        _ => None,
+    }
+}
+
 /// The number of one or more binary digits, highest first, if it is below 2 to the 32.
-#[tactic(auto, unfolding(cif_defs::specs::RawModule::needed_number))]
 fn binary_number(text: &[u8]) -> Option<u64>
     ensures { result ≡ number_needed (Text text.now) }
 {
+    if text.is_empty() {
+        return None;
+    }
     let mut number = 0u64;
-    for digit in text {
-        if *digit != b'0' && *digit != b'1' {
-            return None;
-        }
-        number = 2 * number + u64::from(*digit - b'0');
+    for byte in text {
+        number = 2 * number + binary_digit(*byte)?;
         if number >= 1 << 32 {
             return None;
         }
     }
-    if text.is_empty() { None } else { Some(number) }
+    Some(number)
+}
+
+fn below_limit(number: i128) -> Option<u64>
+    ensures { result ≡ below_limit_int number }
+{
+    if 0 <= number && number < 1 << 32 {
+        Some(number as u64)
+    } else {
+        None
+    }
 }
 
 /// The number of a value, in one of the two spellings of needed numbers.
+#[tactic(auto, unfolding(cif_defs::specs::RawModule::needed_number))]
 fn needed_number(value: &Value) -> Option<u64>
     ensures { result ≡ option_and_then number_needed (value_of (view value.now)) }
 {
     match value {
-        Value::Number(number) => match number.as_u64() {
-            Some(number) if number < 1 << 32 => Some(number),
-            _ => None,
+        Value::Number(number) => match number.as_i128() {
+            Some(number) => below_limit(number),
+            None => None,
         },
         Value::String(text) => binary_number(text.as_bytes()),
         _ => None,
