@@ -9,6 +9,8 @@ mod member;
 mod misfit;
 mod scalar;
 mod shape;
+#[cfg(test)]
+mod tests;
 mod thing;
 mod top;
 

@@ -60,7 +60,6 @@ pub fn members_if_any(alloc: Global, value: Option<Value>) -> Result<Members, Mi
     }
 }
 
-
 /// The member of a name.
 pub fn find<'a>(members: &'a Members, name: &str) -> Option<&'a Value>
     ensures { option_map (λ v. view v.now) result

@@ -72,11 +72,7 @@ impl Misfit {
 }
 
 /// What was read under a name, where a wrong place lies one name further down.
-pub fn within<T: Drop>(
-    alloc: Global,
-    name: &str,
-    answer: Result<T, Misfit>,
-) -> Result<T, Misfit>
+pub fn within<T: Drop>(alloc: Global, name: &str, answer: Result<T, Misfit>) -> Result<T, Misfit>
     ensures { (reading : Result T (List ℕ)) → Answers answer reading
         → Answers result (below name.now reading) }
 {

@@ -10,7 +10,9 @@ use crate::member::{Members, find, members_of, take, text};
 use crate::misfit::{Misfit, needed, within};
 use crate::scalar::{bits, direction, is_set, param_value};
 use crate::thing::{FromMember, attributes_in, name_of, things_in};
-use cif_defs::{Connection, Direction, Listed, Name, Raw, RawBits, RawCell, RawName, RawParam, RawPort};
+use cif_defs::{
+    Connection, Direction, Listed, Name, Raw, RawBits, RawCell, RawName, RawParam, RawPort,
+};
 use serde_json::Value;
 use std::alloc::Global;
 
