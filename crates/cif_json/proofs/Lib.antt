@@ -1,0 +1,6 @@
+pub mod MemberLaws
+pub mod Folds
+pub mod NumberLaws
+pub mod Binary
+pub mod TopLaws
+pub mod Refusals

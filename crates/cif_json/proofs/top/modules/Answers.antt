@@ -1,0 +1,12 @@
+use Rattle.std.proofs.Common.{◌≡◌, ◌∙◌, sym, ap, Some, codes, option_and_then}
+use Rattle.serde_json.specs.View.{view, members_view}
+use Rattle.serde_json.specs.Data.{Data, Members}
+use Rattle.serde_json.specs.Find.{get_member, as_object}
+use Rattle.cif_json.specs.Top.{some_members}
+use Rattle.cif_json.proofs.TopLaws.{members_there}
+use Rattle.cif_json.proofs.top.modules.Goals as goal
+
+pub returns : goal.returns
+returns c =
+    rw (← c.in_ok-members.ensures, ← c.in_ok-take.ensures.value, ← c.in_ok-modules.ensures)
+    (sym (members_there c.in_ok-modules.modules.entries _ c.is_empty.ensures.1 c.if-is_empty.false))

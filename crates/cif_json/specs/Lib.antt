@@ -1,0 +1,5 @@
+pub mod Reading
+pub mod Shape
+pub mod Top
+pub mod Answers
+pub mod Views
