@@ -2,7 +2,7 @@
 //!
 //! Contracts see a `Bits` as the list of its bits, lowest first, and each call as an operation on
 //! such lists. A call that takes `alloc` may answer want of memory, and changes nothing then. The
-//! other calls take no memory. No call takes longer than a walk over its words.
+//! other calls take no memory.
 #![tactic(auto)]
 
 mod digits;

@@ -17,10 +17,11 @@ fn word(rt: &(impl Abort + AllocGlobal), text: &[u8]) -> Bits
     word
 }
 
-// The text of the word that a call made.
-fn text(rt: &(impl Abort + AllocGlobal), answer: Result<Bits, NoMemory>) -> Vec<u8> {
+// The call made the word of this text.
+fn expect_word(rt: &(impl Abort + AllocGlobal), answer: Result<Bits, NoMemory>, want: &[u8]) {
     let word = answer.expect(rt, "memory");
-    word.to_text(rt.alloc()).expect(rt, "memory")
+    let text = word.to_text(rt.alloc()).expect(rt, "memory");
+    assert_eq!(rt; text.as_slice(), want);
 }
 
 // The place of the first byte that is no digit.
@@ -38,17 +39,22 @@ fn texts(rt: HostRuntime) {
     let six = word(&rt, b"0110");
     assert_eq!(rt; six.width(), 4);
     assert_eq!(rt; six.bits(), [false, true, true, false].as_slice());
-    assert_eq!(rt; text(&rt, Ok(six)).as_slice(), b"0110".as_slice());
-    assert_eq!(rt;
-        text(&rt, Ok(word(&rt, b"100"))).as_slice(),
-        b"100".as_slice()
-    );
+    expect_word(&rt, Ok(six), b"0110");
+    expect_word(&rt, Ok(word(&rt, b"100")), b"100");
+}
 
-    assert_eq!(rt; bad_place(&rt, b"0110"), None);
-    assert_eq!(rt; bad_place(&rt, b"x"), Some(0));
-    assert_eq!(rt; bad_place(&rt, b"012a"), Some(2));
-    assert_eq!(rt; bad_place(&rt, b"10/:"), Some(2));
-    assert_eq!(rt; bad_place(&rt, b"01\x001"), Some(2));
+#[test]
+fn bad_digits(rt: HostRuntime) {
+    let table = [
+        (b"0110".as_slice(), None),
+        (b"x".as_slice(), Some(0)),
+        (b"01a0b".as_slice(), Some(2)),
+        (b"10/".as_slice(), Some(2)),
+        (b"12".as_slice(), Some(1)),
+    ];
+    for (text, want) in table {
+        assert_eq!(rt; bad_place(&rt, text), want);
+    }
 }
 
 #[test]
@@ -69,40 +75,43 @@ fn numbers(rt: HostRuntime) {
         assert!(rt; word.width() <= 128);
         assert_eq!(rt; word.to_u128(), want, "{number} at width {width}");
     }
-    let ten = Bits::from_u128(rt.alloc(), 5, 10);
-    assert_eq!(rt; text(&rt, ten).as_slice(), b"01010".as_slice());
+    expect_word(&rt, Bits::from_u128(rt.alloc(), 5, 10), b"01010");
 }
 
 #[test]
-fn bits_one_by_one(rt: HostRuntime) {
+fn single_bits(rt: HostRuntime) {
     let mut six = word(&rt, b"0110");
-    let copy = six.copy(rt.alloc()).expect(&rt, "memory");
     assert!(rt; !six.get(0));
     assert!(rt; six.get(1));
+    let copy = six.copy(rt.alloc()).expect(&rt, "memory");
     assert!(rt; six.equals(&copy));
     six.set(3, true);
     six.set(1, false);
     assert!(rt; !six.equals(&copy));
-    assert_eq!(rt; text(&rt, Ok(six)).as_slice(), b"1100".as_slice());
-    assert_eq!(rt; text(&rt, Ok(copy)).as_slice(), b"0110".as_slice());
+    expect_word(&rt, Ok(six), b"1100");
+    expect_word(&rt, Ok(copy), b"0110");
+}
 
+#[test]
+fn from_a_list(rt: HostRuntime) {
     let lowest_first = [true, false, false]
         .to_vec(rt.alloc())
         .expect(&rt, "memory");
-    let one = Bits::of(lowest_first);
-    assert_eq!(rt; text(&rt, Ok(one)).as_slice(), b"001".as_slice());
+    expect_word(&rt, Ok(Bits::of(lowest_first)), b"001");
 }
 
 #[test]
 fn bit_by_bit(rt: HostRuntime) {
-    let alloc = rt.alloc();
     let a = word(&rt, b"1100");
     let b = word(&rt, b"1010");
-    assert_eq!(rt; text(&rt, a.and(alloc, &b)).as_slice(), b"1000".as_slice());
-    assert_eq!(rt; text(&rt, a.or(alloc, &b)).as_slice(), b"1110".as_slice());
-    assert_eq!(rt; text(&rt, a.xor(alloc, &b)).as_slice(), b"0110".as_slice());
-    assert_eq!(rt; text(&rt, b.not(alloc)).as_slice(), b"0101".as_slice());
+    expect_word(&rt, a.and(rt.alloc(), &b), b"1000");
+    expect_word(&rt, a.or(rt.alloc(), &b), b"1110");
+    expect_word(&rt, a.xor(rt.alloc(), &b), b"0110");
+    expect_word(&rt, b.not(rt.alloc()), b"0101");
+}
 
+#[test]
+fn reductions(rt: HostRuntime) {
     let table = [
         (b"0".as_slice(), false, false, false),
         (b"1".as_slice(), true, true, true),
@@ -119,44 +128,35 @@ fn bit_by_bit(rt: HostRuntime) {
 }
 
 #[test]
-fn other_widths(rt: HostRuntime) {
-    let alloc = rt.alloc();
+fn parts(rt: HostRuntime) {
     let low = word(&rt, b"01");
     let high = word(&rt, b"110");
-    assert_eq!(rt;
-        text(&rt, low.concat(alloc, &high)).as_slice(),
-        b"11001".as_slice()
-    );
-    assert_eq!(rt;
-        text(&rt, high.slice(alloc, 1, 2)).as_slice(),
-        b"11".as_slice()
-    );
-    assert_eq!(rt;
-        text(&rt, high.slice(alloc, 0, 2)).as_slice(),
-        b"10".as_slice()
-    );
-    assert_eq!(rt;
-        text(&rt, high.extend(alloc, 5, true)).as_slice(),
-        b"11110".as_slice()
-    );
-    assert_eq!(rt;
-        text(&rt, high.extend(alloc, 5, false)).as_slice(),
-        b"00110".as_slice()
-    );
-    assert_eq!(rt;
-        text(&rt, low.extend(alloc, 3, true)).as_slice(),
-        b"001".as_slice()
-    );
-    assert_eq!(rt;
-        text(&rt, high.extend(alloc, 2, true)).as_slice(),
-        b"10".as_slice()
-    );
+    expect_word(&rt, low.concat(rt.alloc(), &high), b"11001");
+    expect_word(&rt, high.slice(rt.alloc(), 1, 2), b"11");
+    expect_word(&rt, high.slice(rt.alloc(), 0, 2), b"10");
+}
+
+#[test]
+fn extensions(rt: HostRuntime) {
+    let table = [
+        (b"110".as_slice(), 5, true, b"11110".as_slice()),
+        (b"110".as_slice(), 5, false, b"00110".as_slice()),
+        (b"01".as_slice(), 3, true, b"001".as_slice()),
+        (b"110".as_slice(), 2, true, b"10".as_slice()),
+    ];
+    for (digits, width, signed, want) in table {
+        assert!(rt; !digits.is_empty());
+        assert!(rt; width <= 65_536);
+        expect_word(
+            &rt,
+            word(&rt, digits).extend(rt.alloc(), width, signed),
+            want,
+        );
+    }
 }
 
 #[test]
 fn shifts(rt: HostRuntime) {
-    let alloc = rt.alloc();
-    let word = word(&rt, b"1001");
     let table = [
         (0, b"1001", b"1001", b"1001"),
         (1, b"0010", b"0100", b"1100"),
@@ -164,40 +164,30 @@ fn shifts(rt: HostRuntime) {
         (4, b"0000", b"0000", b"1111"),
         (u32::MAX, b"0000", b"0000", b"1111"),
     ];
+    let word = word(&rt, b"1001");
     for (by, left, right, filled) in table {
-        assert_eq!(rt; text(&rt, word.shl(alloc, by)).as_slice(), left.as_slice());
-        assert_eq!(rt;
-            text(&rt, word.shr(alloc, by, false)).as_slice(),
-            right.as_slice()
-        );
-        assert_eq!(rt;
-            text(&rt, word.shr(alloc, by, true)).as_slice(),
-            filled.as_slice()
-        );
+        expect_word(&rt, word.shl(rt.alloc(), by), left);
+        expect_word(&rt, word.shr(rt.alloc(), by, false), right);
+        expect_word(&rt, word.shr(rt.alloc(), by, true), filled);
     }
 }
 
 #[test]
 fn no_bits(rt: HostRuntime) {
-    let alloc = rt.alloc();
-    let none = Bits::zeros(alloc, 0).expect(&rt, "memory");
+    let none = Bits::zeros(rt.alloc(), 0).expect(&rt, "memory");
     assert_eq!(rt; none.width(), 0);
     assert_eq!(rt; none.to_u128(), 0);
     assert!(rt; none.reduce_and());
     assert!(rt; !none.reduce_or());
     assert!(rt; !none.reduce_xor());
-    assert_eq!(rt; text(&rt, none.not(alloc)).as_slice(), b"".as_slice());
-    assert_eq!(rt; text(&rt, none.shl(alloc, 1)).as_slice(), b"".as_slice());
-    assert_eq!(rt;
-        text(&rt, none.shr(alloc, 1, true)).as_slice(),
-        b"".as_slice()
-    );
-    assert_eq!(rt;
-        text(&rt, none.concat(alloc, &word(&rt, b"10"))).as_slice(),
-        b"10".as_slice()
-    );
+    expect_word(&rt, none.not(rt.alloc()), b"");
+    expect_word(&rt, none.shl(rt.alloc(), 1), b"");
+    expect_word(&rt, none.shr(rt.alloc(), 1, true), b"");
+}
 
-    let widest = Bits::zeros(alloc, 65_536).expect(&rt, "memory");
+#[test]
+fn most_bits(rt: HostRuntime) {
+    let widest = Bits::zeros(rt.alloc(), 65_536).expect(&rt, "memory");
     assert_eq!(rt; widest.width(), 65_536);
     assert!(rt; !widest.reduce_or());
 }
