@@ -33,7 +33,7 @@ is_clock_source n One = false
 
 -- the input port of a name, other than the clock
 unfoldable pub settable : Netlist → List ℕ → Option Wire
-settable n name = find (λ (w : Wire). bytes_eq w.name name && not (list_any (is_clock_source n) w.bits)) n.inputs
+settable n name = option_and_then (λ (w : Wire). if list_any (is_clock_source n) w.bits then None else Some w) (find (λ (w : Wire). bytes_eq w.name name) n.inputs)
 
 -- ---- words
 

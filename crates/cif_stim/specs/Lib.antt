@@ -1,1 +1,3 @@
 pub mod LineWords
+pub mod StimulusView
+pub mod Inside
