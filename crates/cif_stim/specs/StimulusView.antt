@@ -1,7 +1,7 @@
 -- The lines of a stimulus as the definitions have them.
-use Rattle.std.specs.Prelude.{ℕ, Bool, true, false, List}
+use Rattle.std.specs.Prelude.{ℕ, ◌≡◌, ◌++◌, ◌∷◌, [], Bool, true, false, List}
 use Rattle.cif_defs.specs.Words.{Word}
-use Rattle.cif_defs.specs.Stimulus.{TaintedWord, StimLine as LineData, reg_line, mem_line, release_line, cycle_line, set_line}
+use Rattle.cif_defs.specs.Stimulus.{Stimulus as StimulusData, TaintedWord, StimLine as LineData, reg_line, mem_line, release_line, cycle_line, set_line}
 use Rattle.cif_stim.specs.declared.line.StimLine.{StimLine}
 use Rattle.cif_stim.specs.declared.line.StimLine.TheVariants.{Reg, Mem, Release, Cycle, Set}
 
@@ -23,3 +23,7 @@ is_start (Mem cell address value taint) = true
 is_start (Release name wire) = false
 is_start (Cycle k) = false
 is_start (Set port value taint) = false
+
+-- a stimulus with one more line
+abbrev pub Adds : StimulusData → StimulusData → LineData → Type 0
+Adds old new line = new ≡ record { cycles = old.cycles; lines = old.lines ++ line ∷ [] }

@@ -3,7 +3,7 @@ ghost use Rattle.std.specs.Prelude.{◌≡◌, ◌<◌, ◌++◌, ◌∷◌, [],
 ghost use Rattle.cif_defs.specs.Words.{bit};
 ghost use Rattle.cif_defs.specs.Accepted.{netlist_of};
 ghost use Rattle.cif_defs.specs.Stimulus.{input_at, start_at, reg_line, mem_line, release_line, cycle_line, set_line};
-ghost use Rattle.cif_stim.specs.StimulusView.{line_seen};
+ghost use Rattle.cif_stim.specs.StimulusView.{line_seen, tainted, Adds};
 
 use crate::line::{Pair, StimLine};
 use cif_bits::{Bits, NoMemory};
@@ -59,4 +59,94 @@ impl Stimulus {
     {
         &self.lines
     }
+}
+
+/// Lines, one after another. A call that finds no memory leaves the stimulus as it was.
+impl Stimulus {
+    /// Adds the word with which a register starts.
+    pub fn push_reg(
+        &mut self,
+        _alloc: Global,
+        cell: Name,
+        value: Bits,
+        taint: Bits,
+    ) -> Result<(), NoMemory>
+        ensures ok { OnOk result (Adds self.old self.new (reg_line cell (tainted value taint))) }
+        ensures err { OnErr result (self.new ≡ self.old) }
+    {
+        self.lines.push(StimLine::Reg { cell, value, taint })?;
+        self.starts = self.lines.len();
+        Ok(())
+    }
+
+    /// Adds the word with which a memory starts at an address, which counts from the memory's offset on.
+    pub fn push_mem(
+        &mut self,
+        _alloc: Global,
+        cell: Name,
+        address: u64,
+        value: Bits,
+        taint: Bits,
+    ) -> Result<(), NoMemory>
+        ensures ok { OnOk result
+            (Adds self.old self.new (mem_line cell address (tainted value taint))) }
+        ensures err { OnErr result (self.new ≡ self.old) }
+    {
+        self.lines.push(StimLine::Mem {
+            cell,
+            address,
+            value,
+            taint,
+        })?;
+        self.starts = self.lines.len();
+        Ok(())
+    }
+
+    /// Adds the release of a net.
+    pub fn push_release(
+        &mut self,
+        alloc: Global,
+        name: Name,
+        wire: &Wire,
+    ) -> Result<(), NoMemory>
+        ensures ok { OnOk result (Adds self.old self.new (release_line name wire.now.bits)) }
+        ensures err { OnErr result (self.new ≡ self.old) }
+    {
+        let wire = copied(alloc, wire)?;
+        self.lines.push(StimLine::Release { name, wire })?;
+        Ok(())
+    }
+
+    /// Adds the cycle, counted from 0, of the sets that follow.
+    pub fn push_cycle(&mut self, _alloc: Global, cycle: u64) -> Result<(), NoMemory>
+        ensures ok { OnOk result (Adds self.old self.new (cycle_line cycle)) }
+        ensures err { OnErr result (self.new ≡ self.old) }
+    {
+        self.lines.push(StimLine::Cycle(cycle))?;
+        Ok(())
+    }
+
+    /// Adds the word that an input port holds from the last cycle line on.
+    pub fn push_set(
+        &mut self,
+        _alloc: Global,
+        port: Name,
+        value: Bits,
+        taint: Bits,
+    ) -> Result<(), NoMemory>
+        ensures ok { OnOk result (Adds self.old self.new (set_line port (tainted value taint))) }
+        ensures err { OnErr result (self.new ≡ self.old) }
+    {
+        self.lines.push(StimLine::Set { port, value, taint })?;
+        Ok(())
+    }
+}
+
+/// Another wire of the same name and bits.
+fn copied(alloc: Global, wire: &Wire) -> Result<Wire, NoMemory>
+    ensures { IfOk result (λ w. w ≡ wire.now) }
+{
+    let name = Vec::from_slice(alloc, wire.name().items())?;
+    let bits = Vec::from_slice(alloc, wire.items())?;
+    Ok(Wire::of(Name::of(name), bits))
 }
