@@ -1,3 +1,4 @@
 pub mod LineWords
 pub mod StimulusView
 pub mod Inside
+pub mod Held

@@ -5,6 +5,7 @@ mod fault;
 mod line;
 mod stimulus;
 mod text;
+mod walk;
 
 pub use fault::StimFault;
 pub use line::{Pair, StimLine};
