@@ -6,6 +6,7 @@ ghost use Rattle.cif_defs.specs.Stimulus.{input_at, start_at, reg_line, mem_line
 ghost use Rattle.cif_stim.specs.StimulusView.{line_seen, tainted, Adds};
 
 use crate::line::{Pair, StimLine};
+use crate::walk::{last_set, set_pair, started_pair, stores};
 use cif_bits::{Bits, NoMemory};
 use cif_cells::Netlist;
 use cif_defs::{Name, Wire};
@@ -58,6 +59,44 @@ impl Stimulus {
         ensures { map line_seen result.now ≡ self.now.lines }
     {
         &self.lines
+    }
+}
+
+/// What it gives to a netlist. Both calls walk over lines.
+impl Stimulus {
+    /// What bit `index` of an input port holds at a cycle; a bit past the port's word is 0.
+    pub fn input(&self, netlist: &Netlist, port: u32, index: u32, cycle: u64) -> Pair
+        requires { port < length (netlist_of netlist.now).inputs }
+        ensures value { result.value
+            ≡ bit (input_at (netlist_of netlist.now) self.now cycle port).value index }
+        ensures taint { result.taint
+            ≡ bit (input_at (netlist_of netlist.now) self.now cycle port).taint index }
+    {
+        let wire = &netlist.inputs()[port as usize];
+        let setter = last_set(&self.lines, wire.name().items(), cycle);
+        set_pair(&self.lines, setter, index)
+    }
+
+    /// What bit `index` of the word of a register or a memory starts with; a bit past the word is 0.
+    pub fn start(&self, netlist: &Netlist, cell: u32, index: u64) -> Pair
+        requires { cell < length (netlist_of netlist.now).cells }
+        ensures value { result.value
+            ≡ bit (start_at (netlist_of netlist.now) self.now cell).value index }
+        ensures taint { result.taint
+            ≡ bit (start_at (netlist_of netlist.now) self.now cell).taint index }
+    {
+        let owner = &netlist.cells()[cell as usize];
+        if !stores(owner, index) {
+            return Pair {
+                value: false,
+                taint: false,
+            };
+        }
+        let given = Pair {
+            value: netlist.initial(cell, index),
+            taint: false,
+        };
+        started_pair(&self.lines[..self.starts], owner, index, given)
     }
 }
 
