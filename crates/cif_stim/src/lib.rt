@@ -3,6 +3,7 @@
 
 mod fault;
 mod line;
+mod ports;
 mod stimulus;
 mod text;
 mod walk;
