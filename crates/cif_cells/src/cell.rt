@@ -134,6 +134,13 @@ impl Cell {
         (index as usize) < digits.len() && digits[index as usize]
     }
 
+    /// How many operands it has.
+    pub fn operand_count(&self) -> usize
+        ensures { result ≡ length self.now.operands }
+    {
+        self.operands.len()
+    }
+
     /// What each operand reads.
     pub fn operands(&self) -> &[Sources]
         ensures { result.now ≡ self.now.operands }

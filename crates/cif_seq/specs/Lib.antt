@@ -2,3 +2,5 @@ pub mod Rules
 pub mod CellWords
 pub mod Writes
 pub mod Settled
+pub mod Cases
+pub mod CaseView

@@ -1,8 +1,11 @@
 //! Frames: the value and the taint of each bit of a netlist, cycle by cycle.
 #![tactic(auto)]
 
+mod case;
 mod cell;
 mod gather;
 mod rules;
 mod settle;
 mod write;
+
+pub use case::Case;
