@@ -5,3 +5,5 @@ pub mod WriteLaws
 pub mod BuiltCells
 pub mod Evaluated
 pub mod StepLaws
+pub mod StateLaws
+pub mod FrameLaws

@@ -4,3 +4,5 @@ pub mod Writes
 pub mod Settled
 pub mod Cases
 pub mod CaseView
+pub mod States
+pub mod Inputs

@@ -168,6 +168,7 @@ pub fn stored_next(
     ensures taint { IfOk result
         (λ s. (stored stored_taint : WordValue) → length stored_taint ≡ length stored
         → s.taint.items ≡ next_register_taint cell.now values.now taints.now stored stored_taint) }
+    ensures shape { IfOk result (λ s. length s.taint.items ≡ length s.value.items) }
 {
     let width = cell.number(Param::Width) as usize;
     let d = tainted_operand(values, taints, 0);

@@ -4,8 +4,10 @@
 mod case;
 mod cell;
 mod gather;
+mod inputs;
 mod rules;
 mod settle;
+mod state;
 mod write;
 
 pub use case::Case;

@@ -1,0 +1,11 @@
+use Rattle.std.proofs.Common.{◌≡◌}
+use Rattle.cif_defs.specs.Words.{bit, word}
+use Rattle.cif_defs.specs.Accepted.{netlist_of}
+use Rattle.cif_defs.specs.Stimulus.{start_at}
+use Rattle.cif_seq.proofs.state.start_word.Given as goal
+
+abbrev pub invariant-loop-index : goal.invariant-loop-index
+invariant-loop-index l = record {
+  value : l.value.items ≡ word l.index (λ i. bit (start_at (netlist_of l.netlist) l.stimulus l.number).value i);
+  taint : l.taint.items ≡ word l.index (λ i. bit (start_at (netlist_of l.netlist) l.stimulus l.number).taint i);
+}
