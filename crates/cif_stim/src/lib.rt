@@ -2,8 +2,10 @@
 #![tactic(auto)]
 
 mod fault;
+mod form;
 mod line;
 mod ports;
+mod reader;
 mod stimulus;
 mod text;
 mod walk;
