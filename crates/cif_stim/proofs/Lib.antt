@@ -6,3 +6,5 @@ pub mod Words
 pub mod Narrow
 pub mod Sets
 pub mod Forms
+pub mod Heads
+pub mod Groups

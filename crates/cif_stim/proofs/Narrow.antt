@@ -26,7 +26,7 @@ not_faulty false f h = refl
 
 narrow_port : (seen : List ℕ) (p : RawPort) → port_fault seen p ≡ None → length p.bits ≤ 4096
 narrow_port seen p h =
-    let t = not_faulty (nat_lt 4096 (length p.bits)) _ (second_none _ _ (first_none _ _ h)) in
+    let t : nat_lt 4096 (length p.bits) ≡ false = not_faulty (nat_lt 4096 (length p.bits)) _ (second_none _ _ (first_none _ _ h)) in
     grind (arith, nat_tests)
 
 -- the ports that a test keeps

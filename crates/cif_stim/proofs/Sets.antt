@@ -106,7 +106,7 @@ mark_of_open : (opened : Option ℕ) → is_open opened ≡ true → IsMarkOf op
 mark_of_open None h = absurd (cc)
 mark_of_open (Some k) h = (omega arith, grind (arith, nat_tests))
 
-group_push : (lines : List LineData) (x : LineData) → group_of (lines ++ x ∷ []) ≡ group_after (group_of lines) x
+pub group_push : (lines : List LineData) (x : LineData) → group_of (lines ++ x ∷ []) ≡ group_after (group_of lines) x
 group_push lines x = fold_push group_after no_group lines x
 
 same_or_not : (i j : ℕ) → (i ≡ j) ⊎ (i ≢ j)

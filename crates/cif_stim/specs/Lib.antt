@@ -5,3 +5,4 @@ pub mod Held
 pub mod Ports
 pub mod Reading
 pub mod Forms
+pub mod Heads

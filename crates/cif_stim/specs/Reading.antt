@@ -1,12 +1,13 @@
 -- Reading, line by line.
-use Rattle.std.specs.Prelude.{ℕ, ◌<◌, ◌≤◌, ◌≡◌, ◌==◌, Bool, true, false, not, ◌&&◌, List, [], ◌∷◌, fold, length, get_or, bytes_eq, Option, Some, None, if◌then◌else◌}
+use Rattle.std.specs.Prelude.{ℕ, ◌<◌, ◌≤◌, ◌≡◌, ◌==◌, Bool, true, false, not, ◌&&◌, List, [], ◌∷◌, fold, map, length, get_or, bytes_eq, Option, Some, None, if◌then◌else◌}
 use Rattle.std.specs.Borrow.{Bor}
 use Rattle.std.specs.List.{list_any, list_all}
 use Rattle.cif_defs.specs.Words.{Word, zeros}
 use Rattle.cif_defs.specs.WordText.{word_of_text}
+use Rattle.cif_defs.specs.Text.{lines_of, words_of}
 use Rattle.cif_defs.specs.Netlist.{Netlist}
 use Rattle.cif_defs.specs.Stimulus.{Stimulus as StimulusData, StimLine as LineData}
-use Rattle.cif_defs.specs.StimulusText.{Group, no_group, group_after, line_read, set_read, is_plain_word, is_bit_word}
+use Rattle.cif_defs.specs.StimulusText.{Group, no_group, group_after, line_read, lines_read, set_read, is_plain_word, is_bit_word}
 use Rattle.cif_stim.specs.StimulusView.{tainted, Adds}
 use Rattle.cif_stim.specs.Ports.{place_named}
 use Rattle.cif_stim.specs.declared.fault.StimFault.{StimFault}
@@ -76,3 +77,7 @@ pub record Takes (old new : StimulusData) (step : Option LineData) : Type 0 wher
   pub line : LineData
   pub read : step ≡ Some line
   pub added : Adds old new line
+
+-- the lines of a text after the first two
+unfoldable pub lines_in : Netlist → ℕ → List ℕ → Option (List LineData)
+lines_in n cycles text = lines_read n cycles no_group (map words_of (lines_of text))

@@ -7,6 +7,7 @@ ghost use Rattle.cif_stim.specs.Forms.{IsForm, taint_words};
 use crate::text::{Words, is_plain_word, split_words};
 
 /// What a line says, before its words are read.
+#[derive(Clone, Copy)]
 pub enum Form<'a> {
     /// The cycle of the sets that follow.
     Group(&'a [u8]),

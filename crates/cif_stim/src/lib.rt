@@ -5,6 +5,7 @@ mod fault;
 mod form;
 mod line;
 mod ports;
+mod read;
 mod reader;
 mod stimulus;
 mod text;
@@ -12,4 +13,5 @@ mod walk;
 
 pub use fault::StimFault;
 pub use line::{Pair, StimLine};
+pub use read::read_stimulus;
 pub use stimulus::Stimulus;
