@@ -2,3 +2,9 @@ pub mod Pieces
 pub mod Digits
 pub mod Starts
 pub mod Places
+pub mod Words
+pub mod Narrow
+pub mod Sets
+pub mod Forms
+pub mod Heads
+pub mod Groups

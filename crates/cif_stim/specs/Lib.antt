@@ -3,3 +3,6 @@ pub mod StimulusView
 pub mod Inside
 pub mod Held
 pub mod Ports
+pub mod Reading
+pub mod Forms
+pub mod Heads

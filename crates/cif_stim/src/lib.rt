@@ -2,12 +2,16 @@
 #![tactic(auto)]
 
 mod fault;
+mod form;
 mod line;
 mod ports;
+mod read;
+mod reader;
 mod stimulus;
 mod text;
 mod walk;
 
 pub use fault::StimFault;
 pub use line::{Pair, StimLine};
+pub use read::read_stimulus;
 pub use stimulus::Stimulus;

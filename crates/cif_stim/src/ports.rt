@@ -8,6 +8,7 @@ use std::alloc::{AllocError, Global};
 use std::collections::BTreeMap;
 
 /// The places of ports by their names. Where two have one name it is the first of them.
+#[derive(Drop)]
 pub struct PortTable<'a> {
     places: BTreeMap<&'a [u8], usize>,
 }

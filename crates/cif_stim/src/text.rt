@@ -13,6 +13,7 @@ const SPACE: u8 = 32;
 const PERCENT: u8 = 37;
 
 /// The words of a line that has two, three or four.
+#[derive(Clone, Copy)]
 pub enum Words<'a> {
     Two(&'a [u8], &'a [u8]),
     Three(&'a [u8], &'a [u8], &'a [u8]),
