@@ -12,6 +12,6 @@ mod text;
 mod walk;
 
 pub use fault::StimFault;
-pub use line::{Pair, StimLine};
+pub use line::{Held, Pair, StimLine};
 pub use read::read_stimulus;
 pub use stimulus::Stimulus;

@@ -12,6 +12,15 @@ pub struct Pair {
     pub taint: bool,
 }
 
+/// The word that an input port holds, lowest bit first, and its taint. Both are empty where the port isn't set yet.
+#[derive(Clone, Copy)]
+pub struct Held<'a> {
+    /// The word.
+    pub value: &'a [bool],
+    /// Which of its bits are tainted.
+    pub taint: &'a [bool],
+}
+
 /// A line of a stimulus after the line of the number of cycles. A word and its taint have the same width.
 #[derive(Drop)]
 pub enum StimLine {

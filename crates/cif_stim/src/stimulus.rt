@@ -2,11 +2,11 @@
 ghost use Rattle.std.specs.Prelude.{◌≡◌, ◌<◌, ◌++◌, ◌∷◌, [], map, length, IfOk, OnOk, OnErr};
 ghost use Rattle.cif_defs.specs.Words.{bit};
 ghost use Rattle.cif_defs.specs.Accepted.{netlist_of};
-ghost use Rattle.cif_defs.specs.Stimulus.{input_at, start_at, reg_line, mem_line, release_line, cycle_line, set_line};
+ghost use Rattle.cif_defs.specs.Stimulus.{input_at, held_by, unset, start_at, reg_line, mem_line, release_line, cycle_line, set_line};
 ghost use Rattle.cif_stim.specs.StimulusView.{line_seen, tainted, Adds};
 
-use crate::line::{Pair, StimLine};
-use crate::walk::{last_set, set_pair, started_pair, stores};
+use crate::line::{Held, Pair, StimLine};
+use crate::walk::{last_set, set_pair, set_words, started_pair, stores};
 use cif_bits::{Bits, NoMemory};
 use cif_cells::Netlist;
 use cif_defs::{Name, Wire};
@@ -75,6 +75,15 @@ impl Stimulus {
         let wire = &netlist.inputs()[port as usize];
         let setter = last_set(&self.lines, wire.name().items(), cycle);
         set_pair(&self.lines, setter, index)
+    }
+
+    /// The word that the input port of a name holds at a cycle.
+    pub fn held(&self, name: &[u8], cycle: u64) -> Held<'_>
+        ensures value { result.value.now ≡ (held_by self.now.lines name.now cycle unset).value }
+        ensures taint { result.taint.now ≡ (held_by self.now.lines name.now cycle unset).taint }
+    {
+        let setter = last_set(&self.lines, name, cycle);
+        set_words(&self.lines, setter)
     }
 
     /// What bit `index` of the word of a register or a memory starts with; a bit past the word is 0.
