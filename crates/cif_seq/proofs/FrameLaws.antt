@@ -7,15 +7,19 @@ use Rattle.std.proofs.lemmas.List.FromFn.{length-map-range_with_len, get_or-map-
 use Rattle.cif_defs.specs.Words.{Word, bit, word, operand}
 use Rattle.cif_defs.specs.Cells.{Cell}
 use Rattle.cif_defs.specs.Netlist.{IsWired, Netlist, cell_at, driver_of, role_at, no_wire}
-use Rattle.cif_defs.specs.Stimulus.{Stimulus, start_at, input_at, is_released}
+use Rattle.cif_defs.specs.Stimulus.{Stimulus, start_at, input_at, held_by, unset, is_released}
 use Rattle.cif_defs.specs.Run.{driver_value, driver_value_at_depth_0, settled, value_in, stored_by, next_stored, state, value, input_value}
 use Rattle.cif_defs.specs.TaintRun.{TaintState, driver_taint, driver_taint_at_depth_0, settled_taint, taint_stored_by, next_taints, taint_state, taint, taint_in, input_taint, IsFrame}
+use Rattle.cif_defs.specs.declared.nets.Wire.{Wire}
 use Rattle.cif_defs.specs.declared.nets.Src.{Src}
 use Rattle.cif_defs.specs.declared.nets.Src.TheVariants.{Bit, Zero, One}
 use Rattle.cif_defs.specs.declared.nets.Driver.{Driver}
 use Rattle.cif_defs.specs.declared.nets.Driver.TheVariants.{Input, Output, Register, Read, Clock}
 use Rattle.cif_defs.proofs.WordLaws.{le_or_lt, length-word, bit-word}
-use Rattle.cif_seq.specs.Settled.{input_bits}
+use Rattle.cif_defs.specs.Accepted.{netlist_of}
+use Rattle.cif_defs.specs.declared.raw_module.Raw.{Raw}
+use Rattle.cif_seq.specs.Cases.{CaseOf, HoldsFrame, net_of}
+use Rattle.cif_seq.specs.Settled.{Marks, input_bits}
 use Rattle.cif_seq.specs.States.{StartsWith, NextWords}
 use Rattle.cif_seq.specs.Inputs.{HoldsInputs, InputsUpTo, input_width}
 use Rattle.cif_seq.proofs.StateLaws.{each_more, longer}
@@ -174,3 +178,75 @@ next_taint_state n s k v t stored stored_taints values taints e f q r shape h = 
 
 pub next_shapes : (n : Netlist) (v t : ℕ → Bool) (values taints : List Word) → NextWords n v t values taints → map length taints ≡ map length values
 next_shapes n v t values taints h = shapes (length n.cells) values taints h.as_many_values h.as_many_taints h.shape
+
+-- ---- the word of one port
+
+same_get : {A : Type 0} (xs : List A) (i : ℕ) (d e : A) → i < length xs → get_or xs i d ≡ get_or xs i e
+same_get [] i d e h = absurd (omega arith)
+same_get (x ∷ xs) zero d e h = refl
+same_get (x ∷ xs) (suc i) d e h = same_get xs i d e (omega arith)
+
+pub wire_found : (n : Netlist) (wires : List Wire) (p : ℕ) (x : Wire) → wires ≡ n.inputs → x ≡ get_or wires p x → p < length n.inputs → x ≡ get_or n.inputs p no_wire
+wire_found n wires p x e h l = h ∙ ap (λ (xs : List Wire). get_or xs p x) e ∙ same_get n.inputs p x no_wire l
+
+pub held_word : (n : Netlist) (s : Stimulus) (k p : ℕ) (x : Wire) (name : List ℕ) (held w : Word) (width : ℕ) → x ≡ get_or n.inputs p no_wire → name ≡ x.name → held ≡ (held_by s.lines name k unset).value → width ≡ length x.bits
+    → w ≡ word width (λ j. bit held j) → w ≡ word (input_width n p) (λ j. bit (input_at n s k p).value j)
+held_word n s k p x name held w width e en eh ew q =
+    q ∙ ap (λ m. word m (λ j. bit held j)) (ew ∙ ap (λ (y : Wire). length y.bits) e)
+    ∙ ap (λ (u : Word). word (input_width n p) (λ j. bit u j)) (eh ∙ ap (λ (y : List ℕ). (held_by s.lines y k unset).value) (en ∙ ap (λ (y : Wire). y.name) e))
+
+pub held_taint : (n : Netlist) (s : Stimulus) (k p : ℕ) (x : Wire) (name : List ℕ) (held w : Word) (width : ℕ) → x ≡ get_or n.inputs p no_wire → name ≡ x.name → held ≡ (held_by s.lines name k unset).taint → width ≡ length x.bits
+    → w ≡ word width (λ j. bit held j) → w ≡ word (input_width n p) (λ j. bit (input_at n s k p).taint j)
+held_taint n s k p x name held w width e en eh ew q =
+    q ∙ ap (λ m. word m (λ j. bit held j)) (ew ∙ ap (λ (y : Wire). length y.bits) e)
+    ∙ ap (λ (u : Word). word (input_width n p) (λ j. bit u j)) (eh ∙ ap (λ (y : List ℕ). (held_by s.lines y k unset).taint) (en ∙ ap (λ (y : Wire). y.name) e))
+
+-- ---- a frame holds what its cycle has
+
+abbrev shown_case : CaseOf → Raw → Stimulus → CaseOf
+shown_case c raw s = record { raw = raw; order = c.order; stimulus = s }
+
+pub holds_frame : (c d : CaseOf) (k : ℕ) (raw : Raw) (s : Stimulus) (bits bit_taints marks : List Bool) (stored stored_taints seen seen_taints values taints seen_values seen_input_taints : List Word)
+    → raw ≡ c.raw → s ≡ c.stimulus → d ≡ c → seen ≡ stored → seen_taints ≡ stored_taints → seen_values ≡ values → seen_input_taints ≡ taints
+    → stored ≡ state (net_of c) c.stimulus k → stored_taints ≡ (taint_state (net_of c) c.stimulus k).stored → map length stored_taints ≡ map length stored
+    → IsWired (netlist_of raw) → HoldsInputs (netlist_of raw) s k values taints → Marks (net_of d) marks (is_released d.stimulus.lines)
+    → ((b : ℕ) → bit bits b ≡ value_in (netlist_of raw) seen (input_bits seen_values) b)
+    → ((flags : List Bool) (released : ℕ → Bool) → Marks (netlist_of raw) marks released
+      → (b : ℕ) → bit bit_taints b ≡ settled_taint (netlist_of raw) seen (value_in (netlist_of raw) seen (input_bits seen_values)) (record { stored = seen_taints; flags = flags }) (input_bits seen_input_taints) released (length (netlist_of raw).cells) b)
+    → HoldsFrame c k bits bit_taints stored stored_taints
+holds_frame c d k raw s bits bit_taints marks stored stored_taints seen seen_taints values taints seen_values seen_input_taints eraw es ed e1 e2 e3 e4 f g shape wired inputs marked q r =
+    let same : shown_case c raw s ≡ c = (λ i. record { raw = eraw i; order = c.order; stimulus = es i }) in
+    let state_is : seen ≡ state (netlist_of raw) s k = e1 ∙ f ∙ ap (λ (x : CaseOf). state (net_of x) x.stimulus k) (sym same) in
+    let taint_is : seen_taints ≡ (taint_state (netlist_of raw) s k).stored = e2 ∙ g ∙ ap (λ (x : CaseOf). (taint_state (net_of x) x.stimulus k).stored) (sym same) in
+    let held : HoldsInputs (netlist_of raw) s k seen_values seen_input_taints = subst (λ (v : List Word). HoldsInputs (netlist_of raw) s k v seen_input_taints) (sym e3) (subst (λ (v : List Word). HoldsInputs (netlist_of raw) s k values v) (sym e4) inputs) in
+    let mark : Marks (netlist_of raw) marks (is_released s.lines) = subst (λ (x : CaseOf). Marks (net_of x) marks (is_released x.stimulus.lines)) (ed ∙ sym same) marked in
+    subst (λ (x : CaseOf). HoldsFrame x k bits bit_taints stored stored_taints) same (record {
+      shown = record {
+        net_values = frame_values (netlist_of raw) s k seen seen_values seen_input_taints bits wired held state_is q;
+        net_taints = frame_taints (netlist_of raw) s k seen seen_taints seen_values seen_input_taints bit_taints wired held state_is taint_is (r (taint_state (netlist_of raw) s k).flags (is_released s.lines) mark);
+        state_values = sym e1 ∙ state_is;
+        state_taints = sym e2 ∙ taint_is;
+        memory_flags = refl;
+      };
+      same_shape = shape;
+    })
+-- ---- from frame to frame
+
+pub next_state_of : (c : CaseOf) (k : ℕ) (raw : Raw) (values taints seen seen_taints : List Bool) (new_values new_taints : List Word) → raw ≡ c.raw → seen ≡ values → ((b : ℕ) → bit values b ≡ value (net_of c) c.stimulus k b)
+    → NextWords (netlist_of raw) (bit seen) (bit seen_taints) new_values new_taints → new_values ≡ state (net_of c) c.stimulus (k + 1)
+next_state_of c k raw values taints seen seen_taints new_values new_taints e q h w =
+    next_state (net_of c) c.stimulus k (bit seen) (bit seen_taints) new_values new_taints
+      (same_function _ _ (λ b. ap (λ (bs : List Bool). bit bs b) q ∙ h b)) (subst (λ (x : Raw). NextWords (netlist_of x) (bit seen) (bit seen_taints) new_values new_taints) e w)
+
+pub next_taints_of : (c : CaseOf) (k : ℕ) (raw : Raw) (values taints seen seen_taints : List Bool) (stored stored_taints new_values new_taints : List Word) → raw ≡ c.raw → seen ≡ values → seen_taints ≡ taints
+    → HoldsFrame c k values taints stored stored_taints → NextWords (netlist_of raw) (bit seen) (bit seen_taints) new_values new_taints → new_taints ≡ (taint_state (net_of c) c.stimulus (k + 1)).stored
+next_taints_of c k raw values taints seen seen_taints stored stored_taints new_values new_taints e q r h w =
+    next_taint_state (net_of c) c.stimulus k (bit seen) (bit seen_taints) stored stored_taints new_values new_taints
+      (same_function _ _ (λ b. ap (λ (bs : List Bool). bit bs b) q ∙ h.shown.net_values b)) (same_function _ _ (λ b. ap (λ (bs : List Bool). bit bs b) r ∙ h.shown.net_taints b))
+      h.shown.state_values h.shown.state_taints h.same_shape (subst (λ (x : Raw). NextWords (netlist_of x) (bit seen) (bit seen_taints) new_values new_taints) e w)
+
+pub first_state_of : (c : CaseOf) (raw : Raw) (s : Stimulus) (values taints : List Word) → raw ≡ c.raw → s ≡ c.stimulus → StartsWith (netlist_of raw) s values taints → values ≡ state (net_of c) c.stimulus 0
+first_state_of c raw s values taints e q h = first_state (netlist_of raw) s values taints h ∙ ap (λ (x : Raw). state (netlist_of x) s 0) e ∙ ap (λ (x : Stimulus). state (net_of c) x 0) q
+
+pub first_taints_of : (c : CaseOf) (raw : Raw) (s : Stimulus) (values taints : List Word) → raw ≡ c.raw → s ≡ c.stimulus → StartsWith (netlist_of raw) s values taints → taints ≡ (taint_state (net_of c) c.stimulus 0).stored
+first_taints_of c raw s values taints e q h = first_taint_state (netlist_of raw) s values taints h ∙ ap (λ (x : Raw). (taint_state (netlist_of x) s 0).stored) e ∙ ap (λ (x : Stimulus). (taint_state (net_of c) x 0).stored) q

@@ -6,6 +6,7 @@ ghost use Rattle.cif_defs.specs.Stimulus.{input_at};
 ghost use Rattle.cif_seq.specs.Inputs.{HoldsInputs, input_width};
 
 use crate::cell::Stored;
+use crate::rules::cut;
 use crate::state::StoredWords;
 use cif_cells::{Listed, Netlist};
 use cif_stim::Stimulus;
@@ -16,7 +17,7 @@ fn input_word(
     alloc: Global,
     netlist: &Netlist,
     stimulus: &Stimulus,
-    port: u32,
+    port: usize,
     cycle: u64,
 ) -> Result<Stored, AllocError>
     requires { port < length (netlist_of netlist.now).inputs }
@@ -25,15 +26,11 @@ fn input_word(
     ensures taint { IfOk result (λ s. s.taint.items ≡ word (input_width (netlist_of netlist.now) port)
         (λ j. bit (input_at (netlist_of netlist.now) stimulus.now cycle port).taint j)) }
 {
-    let wire = &netlist.inputs()[port as usize];
+    let wire = &netlist.inputs()[port];
+    let held = stimulus.held(wire.name().items(), cycle);
     let width = wire.items().len();
-    let mut value = Vec::with_capacity(alloc, width)?;
-    let mut taint = Vec::with_capacity(alloc, width)?;
-    for index in 0..width {
-        let pair = stimulus.input(netlist, port, index as u32, cycle);
-        value.push(pair.value)?;
-        taint.push(pair.taint)?;
-    }
+    let value = cut(alloc, width, held.value)?;
+    let taint = cut(alloc, width, held.taint)?;
     Ok(Stored { value, taint })
 }
 
@@ -50,7 +47,7 @@ pub fn input_words(
     let mut values = Vec::with_capacity(alloc, count)?;
     let mut taints = Vec::with_capacity(alloc, count)?;
     for port in 0..count {
-        let held = input_word(alloc, netlist, stimulus, port as u32, cycle)?;
+        let held = input_word(alloc, netlist, stimulus, port, cycle)?;
         values.push(Listed::of(held.value))?;
         taints.push(Listed::of(held.taint))?;
     }

@@ -3,6 +3,7 @@
 
 mod case;
 mod cell;
+mod frame;
 mod gather;
 mod inputs;
 mod rules;
@@ -11,3 +12,4 @@ mod state;
 mod write;
 
 pub use case::Case;
+pub use frame::{Frame, first_frame, next_frame};
