@@ -5,6 +5,7 @@ mod cell;
 mod fault;
 mod netlist;
 mod raw_access;
+mod parameters;
 mod ports;
 pub mod table;
 
