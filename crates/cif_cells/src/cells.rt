@@ -21,7 +21,7 @@ const WORD_LIMIT: u64 = 4_096;
 const MEMORY_LIMIT: u64 = 16_777_216;
 
 /// A check that goes over all ports of a cell.
-#[derive(Clone, Copy, Debug, Drop, PartialEq, Eq)]
+#[derive(Clone, Copy, Debug, Drop)]
 pub enum PortCheck {
     /// By its parameters the port has no bits.
     Empty,
