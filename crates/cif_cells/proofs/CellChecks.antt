@@ -1,10 +1,9 @@
 -- Checks that go over lists, and what they leave known of an accepted cell.
-use Rattle.std.specs.Prelude.{ℕ, zero, suc, ◌+◌, ◌*◌, ◌<◌, ◌≤◌, ◌≡◌, Bool, true, false, not, ◌||◌, ◌==◌, nat_lt, List, [], ◌∷◌, ◌++◌, length, get_or, map, sum, take, Option, Some, None, if◌then◌else◌}
+use Rattle.std.specs.Prelude.{ℕ, zero, suc, ◌+◌, ◌*◌, ◌<◌, ◌≤◌, ◌≡◌, Bool, true, false, ◌||◌, ◌==◌, nat_lt, List, [], ◌∷◌, ◌++◌, length, get_or, map, sum, take, Option, Some, None, if◌then◌else◌}
 use Rattle.std.proofs.Common.{arith, ap, refl, sym, ◌∙◌, lit≤, lit<}
 use Rattle.std.proofs.lemmas.Bool.{ltb-false, eqb-true, not-false}
 use Rattle.std.proofs.lemmas.List.Sums.{sum_by_more, sum-map}
 use Rattle.std.proofs.Math.Nat.{mul-le-mul_right}
-use Rattle.cif_defs.specs.Kinds.{role_of}
 use Rattle.cif_defs.specs.Table.{kind_of, is_built, operands_of, outputs_of, clocks_of, ports_of, width_limit, shift_limit, shiftx_limit, joined_at, lut_limit}
 use Rattle.cif_defs.specs.RawModule.{port_bits}
 use Rattle.cif_defs.specs.declared.kinds.Kind.{Kind}
@@ -102,7 +101,7 @@ outputs_part : (f : PortRow → Option BuildFault) (k : Kind) → first_fault f 
 unfolding ports_of
 outputs_part f Mem h =
     (else_none (first_fault f (operands_of Mem)) (first_fault f (outputs_of Mem))
-      (sym (fault_append f (operands_of Mem) (outputs_of Mem)) ∙ (else_none (first_fault f (operands_of Mem ++ outputs_of Mem)) (first_fault f (clocks_of Mem)) (sym (fault_append f (operands_of Mem ++ outputs_of Mem) (clocks_of Mem)) ∙ h)).0)).1
+    (sym (fault_append f (operands_of Mem) (outputs_of Mem)) ∙ (else_none (first_fault f (operands_of Mem ++ outputs_of Mem)) (first_fault f (clocks_of Mem)) (sym (fault_append f (operands_of Mem ++ outputs_of Mem) (clocks_of Mem)) ∙ h)).0)).1
 outputs_part f k h = (else_none (first_fault f (clocks_of k ++ operands_of k)) (first_fault f (outputs_of k)) (sym (fault_append f (clocks_of k ++ operands_of k) (outputs_of k)) ∙ h)).1
 
 narrow_row : (c : RawCell) (k : Kind) (r : PortRow) → too_wide c k r ≡ None → wrong_width c r ≡ None → length (port_bits c r) ≤ 65536
@@ -116,8 +115,8 @@ pub narrow_outputs : (c : RawCell) (k : Kind) → first_fault (row_fault TooWide
     → (i : ℕ) (row : PortRow) → i < length (outputs_of k) → length (port_bits c (get_or (outputs_of k) i row)) ≤ 65536
 narrow_outputs c k t w i row h =
     narrow_row c k (get_or (outputs_of k) i row)
-      (fault_none_at (row_fault TooWide c k) (outputs_of k) i row h (outputs_part (row_fault TooWide c k) k t))
-      (fault_none_at (row_fault WrongWidth c k) (outputs_of k) i row h (outputs_part (row_fault WrongWidth c k) k w))
+    (fault_none_at (row_fault TooWide c k) (outputs_of k) i row h (outputs_part (row_fault TooWide c k) k t))
+    (fault_none_at (row_fault WrongWidth c k) (outputs_of k) i row h (outputs_part (row_fault WrongWidth c k) k w))
 
 -- ---- the bits of a memory that passes its checks
 
@@ -135,7 +134,7 @@ product_small size width s w =
 known_small : (c : RawCell) (k : Kind) → known_cell_fault c k ≡ None → memory_size_by c (Some k) ≤ 17592186044416
 known_small c Mem h =
     product_small (number_or_0 c Size) (number_or_0 c Width) (number_small c Size)
-      (word_small c (else_none _ _ (else_none _ _ (else_none _ _ (else_none _ _ h).0).0).0).1)
+    (word_small c (else_none _ _ (else_none _ _ (else_none _ _ (else_none _ _ h).0).0).0).1)
 known_small c k h = lit≤ tt
 
 chosen : (b : Bool) (x : Option BuildFault) (fault : BuildFault) → (if b then x else Some fault) ≡ None → x ≡ None

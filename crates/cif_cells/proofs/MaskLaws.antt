@@ -1,7 +1,6 @@
 -- Digits of masks: whether one among the lowest is 1, or 0.
-use Rattle.std.specs.Prelude.{ℕ, zero, suc, ◌+◌, ◌<◌, ◌≤◌, ◌≡◌, min, nat_lt, Bool, true, false, not, ◌&&◌, ◌||◌, List, [], ◌∷◌, ◌++◌, length, get_or, if◌then◌else◌}
-use Rattle.std.specs.List.{list_any}
-use Rattle.std.proofs.Common.{arith, ap, refl, sym, ◌∙◌, add-one, ◌⊎◌, inl, inr}
+use Rattle.std.specs.Prelude.{ℕ, zero, suc, ◌+◌, ◌<◌, ◌≤◌, ◌≡◌, min, nat_lt, Bool, true, false, not, ◌&&◌, ◌||◌, [], ◌∷◌, length, if◌then◌else◌}
+use Rattle.std.proofs.Common.{arith, ap, refl, sym, ◌∙◌, inl, inr}
 use Rattle.std.proofs.lemmas.Bool.{le-ltb, lt-ltb}
 use mathlib.Core.Bool.{beq}
 use Rattle.std.proofs.lemmas.List.{get_or_past}
@@ -38,10 +37,11 @@ digit_more d f n none other =
 none_past : (d : Bool) (f : ℕ → Bool) (given n : ℕ) → given ≤ n → has_digit d (word given f) ≡ false → ((i : ℕ) → given ≤ i → f i ≡ d → ⊥) → has_digit d (word n f) ≡ false
 none_past d f given zero h none past = ap (λ k. has_digit d (word k f)) (let e : 0 ≡ given = omega arith in e) ∙ none
 none_past d f given (suc n) h none past = elim (le_or_lt n given) [
-    inl below ↦ ap (λ k. has_digit d (word k f)) (let e : suc n ≡ given = omega arith in e) ∙ none
+  | inl below ↦ ap (λ k. has_digit d (word k f)) (let e : suc n ≡ given = omega arith in e) ∙ none
   | inr above ↦
-    let step : has_digit d (word (n + 1) f) ≡ false = digit_more d f n (none_past d f given n above none past) (past n above) in
-    ap (λ k. has_digit d (word k f)) (let e : suc n ≡ n + 1 = omega arith in e) ∙ step ]
+      let step : has_digit d (word (n + 1) f) ≡ false = digit_more d f n (none_past d f given n above none past) (past n above) in
+      ap (λ k. has_digit d (word k f)) (let e : suc n ≡ n + 1 = omega arith in e) ∙ step
+]
 
 past_all : (d : Bool) (f : ℕ → Bool) (count given : ℕ) → given < count → ((i : ℕ) → given ≤ i → f i ≡ false) → has_digit d (word given f) ≡ false → has_digit d (word count f) ≡ not d
 past_all true f count given h past none = none_past true f given count (omega arith) none (λ i k e. absurd (let q : false ≡ true = sym (past i k) ∙ e in cc))
@@ -50,18 +50,20 @@ past_all false f count given h past none = digit_found false f count given h (pa
 -- the digits that a value has, and past them zeros
 pub digits_done : (d : Bool) (f : ℕ → Bool) (count given : ℕ) → ((i : ℕ) → given ≤ i → f i ≡ false) → has_digit d (word (min count given) f) ≡ false → has_digit d (word count f) ≡ (not d && nat_lt given count)
 digits_done d f count given past none = elim (le_or_lt given count) [
-    inl below ↦
+  | inl below ↦
       let shown : has_digit d (word given f) ≡ false = ap (λ k. has_digit d (word k f)) (let e : given ≡ min count given = omega arith in e) ∙ none in
       past_all d f count given below past shown ∙ and_true (not d) ∙ ap (λ b. not d && b) (sym (lt-ltb given count below))
   | inr above ↦
-      ap (λ k. has_digit d (word k f)) (let e : count ≡ min count given = omega arith in e) ∙ none ∙ and_false (not d) ∙ ap (λ b. not d && b) (sym (le-ltb given count above)) ]
+      ap (λ k. has_digit d (word k f)) (let e : count ≡ min count given = omega arith in e) ∙ none ∙ and_false (not d) ∙ ap (λ b. not d && b) (sym (le-ltb given count above))
+]
   where
-  and_true : (b : Bool) → b ≡ (b && true)
-  and_true true = refl
-  and_true false = refl
-  and_false : (b : Bool) → false ≡ (b && false)
-  and_false true = refl
-  and_false false = refl
+    and_true : (b : Bool) → b ≡ (b && true)
+    and_true true = refl
+    and_true false = refl
+
+    and_false : (b : Bool) → false ≡ (b && false)
+    and_false true = refl
+    and_false false = refl
 
 pub no_digits : (d : Bool) (count : ℕ) → has_digit d (word count (λ i. bit [] i)) ≡ (not d && nat_lt 0 count)
 no_digits d count = digits_done d (λ i. bit [] i) count 0 (λ i h. refl) (ap (λ k. has_digit d (word k (λ i. bit [] i))) (let e : min count 0 ≡ 0 = omega arith in e))

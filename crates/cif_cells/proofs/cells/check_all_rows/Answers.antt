@@ -1,7 +1,7 @@
 use Rattle.std.proofs.Common.{◌≡◌, Option, None, IsOk, IfErr, subst, rules}
 use Rattle.cif_defs.specs.Table.{ports_of}
 use Rattle.cif_cells.specs.declared.fault.BuildFault.{BuildFault}
-use Rattle.cif_cells.specs.Checks.{IsFirst, first_fault}
+use Rattle.cif_cells.specs.Checks.{IsFirst}
 use Rattle.cif_cells.specs.PortChecks.{row_fault}
 use Rattle.cif_cells.proofs.CellChecks.{groups}
 use Rattle.cif_cells.proofs.cells.check_all_rows.Goals as goal

@@ -4,7 +4,7 @@ use Rattle.cif_defs.specs.Words.{bit, word}
 use Rattle.cif_defs.specs.Table.{param_text}
 use Rattle.cif_defs.specs.RawModule.{digits_read, value_named}
 use Rattle.cif_defs.specs.declared.raw_module.ParamValue.{ParamValue}
-use Rattle.cif_cells.specs.Checks.{has_digit, mask_digits}
+use Rattle.cif_cells.specs.Checks.{has_digit}
 use Rattle.cif_cells.proofs.MaskLaws.{no_digits, last_wanted, last_unwanted}
 use Rattle.cif_cells.proofs.parameters.has_mask_digit.Goals as goal
 
