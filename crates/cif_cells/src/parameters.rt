@@ -1,5 +1,5 @@
 // Checks of a cell's parameters.
-ghost use Rattle.std.specs.Prelude.{◌≡◌, not, Option, Some, None, IsOk, IfOk, IfErr};
+ghost use Rattle.std.specs.Prelude.{◌≡◌, not, None, IsOk, IfOk, IfErr};
 ghost use Rattle.std.specs.List.{list_all};
 ghost use Rattle.cif_defs.specs.Kinds.{role_of};
 ghost use Rattle.cif_defs.specs.Words.{word, bit};

@@ -1,5 +1,5 @@
 // What a raw module says of a cell: parameters in their two spellings, and connections.
-ghost use Rattle.std.specs.Prelude.{◌≡◌, ◌<◌, ◌≤◌, ◌+◌, ◌*◌, ◌^◌, min, nat_lt, ◌&&◌, not, length, Option, Some, None, option_map, MatchOption, SomeIff, IfOk, IfErr, map, if◌then◌else◌};
+ghost use Rattle.std.specs.Prelude.{◌≡◌, ◌<◌, ◌*◌, ◌^◌, min, not, length, option_map, SomeIff, IfOk};
 ghost use Rattle.std.specs.List.{list_all};
 ghost use Rattle.cif_defs.specs.Words.{bit, number as number_of_word};
 ghost use Rattle.cif_defs.specs.WordText.{word_of_text, is_no_digit};
