@@ -2,3 +2,4 @@ pub mod CellView
 pub mod Checks
 pub mod InputNumbers
 pub mod NetlistView
+pub mod PortChecks

@@ -2,10 +2,12 @@
 #![tactic(auto)]
 
 mod cell;
+mod cells;
 mod fault;
 mod netlist;
-mod raw_access;
+mod parameters;
 mod ports;
+mod raw_access;
 pub mod table;
 
 pub use cell::{Cell, Digits, Given, Sources, Targets};
