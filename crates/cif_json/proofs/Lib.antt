@@ -4,3 +4,5 @@ pub mod NumberLaws
 pub mod Binary
 pub mod TopLaws
 pub mod Refusals
+pub mod OrderedData
+pub mod OrderedModule

@@ -3,3 +3,4 @@ pub mod Shape
 pub mod Top
 pub mod Answers
 pub mod Views
+pub mod Order

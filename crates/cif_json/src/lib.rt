@@ -16,6 +16,7 @@ mod top;
 
 ghost use Rattle.std.specs.Prelude.{◌≡◌, ◌++◌, codes, Ok, IfOk, IfErr};
 ghost use Rattle.serde_json.specs.View.{view};
+ghost use Rattle.cif_json.specs.Order.{IsInOrder};
 ghost use Rattle.cif_json.specs.Top.{netlist_of};
 ghost use Rattle.cif_json.specs.Answers.{IsFaultOf, IsFirst, ReadsAs, IsUnread, ComesTo, IsRefused};
 
@@ -91,6 +92,7 @@ fn netlist_in(alloc: Global, file: Value) -> Result<Raw, JsonFault>
 /// order of name.
 pub fn read_netlist(alloc: Global, bytes: &[u8]) -> Result<Raw, JsonFault>
     ensures ok { IfOk result (λ raw. ComesTo bytes.now (Ok raw)) }
+    ensures ordered { IfOk result IsInOrder }
     ensures err { IfErr result (λ e. IsRefused bytes.now e) }
 {
     let value = read_value(alloc, bytes)?;

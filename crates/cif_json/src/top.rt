@@ -63,10 +63,10 @@ fn needed_number(value: &Value) -> Option<u64>
 
 /// Whether a module is marked as top.
 #[tactic(auto, unfolding(crate::specs::Top::is_top))]
-fn is_top(module: &Value) -> bool
-    ensures { result ≡ is_top_module (view module.now) }
+fn is_top(value: &Value) -> bool
+    ensures { result ≡ is_top_module (view value.now) }
 {
-    let Some(attributes) = module.get("attributes") else {
+    let Some(attributes) = value.get("attributes") else {
         return false;
     };
     match attributes.get("top") {
