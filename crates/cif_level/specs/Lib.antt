@@ -1,3 +1,4 @@
 pub mod Feeding
+pub mod LevelFaults
 pub mod Rings
 pub mod Searching

@@ -1,12 +1,10 @@
 -- What a search for an order keeps: marks of cells, the path on which it is, and the order so far.
 use Rattle.std.specs.Prelude.{ℕ, suc, ◌+◌, ◌-◌, ◌<◌, ◌≤◌, ◌≡◌, true, List, length, get_or, sum_by, Option, Some}
-use Rattle.cif_defs.specs.Loop.{Drives, IsLoop, is_passing}
+use Rattle.cif_defs.specs.Loop.{Drives, is_passing}
 use Rattle.cif_defs.specs.Netlist.{Netlist, role_at}
 use Rattle.cif_level.specs.Feeding.{feeder_of, feeder_at}
 use Rattle.cif_defs.specs.declared.nets.Src.{Src}
 use Rattle.cif_defs.specs.declared.nets.Src.TheVariants.{Zero}
-use Rattle.cif_level.specs.declared.fault.LevelFault.{LevelFault}
-use Rattle.cif_level.specs.declared.fault.LevelFault.TheVariants.{Loop, Memory}
 use Rattle.cif_level.specs.declared.feeders.OperandPlace.{OperandPlace}
 use Rattle.cif_level.specs.declared.search.Search.{Search}
 use Rattle.cif_level.specs.declared.feeders.Mark.{Mark}
@@ -16,11 +14,6 @@ use Rattle.cif_level.specs.declared.feeders.Mark.TheVariants.{Unseen, OnPath, Pl
 pub record IsLast (xs : List ℕ) (x : ℕ) : Type 0 where
   pub not_empty : 0 < length xs
   pub is : get_or xs (length xs - 1) 0 ≡ x
-
--- a loop that is named is one; want of memory says nothing of the netlist
-abbrev pub IsReal : Netlist → LevelFault → Type 0
-IsReal n (Loop cells) = IsLoop n cells
-IsReal n Memory = Unit {0}
 
 -- cells past the end are unseen
 abbrev pub mark_of : List Mark → ℕ → Mark

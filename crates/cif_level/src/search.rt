@@ -5,7 +5,8 @@ ghost use Rattle.cif_defs.specs.Loop.{IsLevelled, IsLoop, is_passing as is_passi
 ghost use Rattle.cif_defs.specs.Netlist.{IsWired, role_at};
 ghost use Rattle.cif_level.specs.declared.feeders.Mark.TheVariants.{Unseen, OnPath, Placed};
 ghost use Rattle.cif_level.specs.Feeding.{feeder_at};
-ghost use Rattle.cif_level.specs.Searching.{IsReal, IsLast, mark_of, first_place, place_of, AreBefore, AreAllPlaced, Keeps, IsFurther, Follows};
+ghost use Rattle.cif_level.specs.LevelFaults.{IsReal};
+ghost use Rattle.cif_level.specs.Searching.{IsLast, mark_of, first_place, place_of, AreBefore, AreAllPlaced, Keeps, IsFurther, Follows};
 
 use crate::fault::LevelFault;
 use crate::feeders::{Mark, OperandPlace, is_passing, next_feed};
