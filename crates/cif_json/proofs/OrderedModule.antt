@@ -137,12 +137,14 @@ reads_cell name d x h e =
     let attributes = then_gave (attributes_in members.0) _ x parameters.2 in
     let connections = then_gave (things_in members.0 (codes "connections") connection) _ x attributes.2 in
     let ordered = members_ordered d members.0 h members.1 in
-    let is = ok_gave _ _ x refl connections.2 in
-    (sym (ap (λ (c : RawCell). c.name) is), subst IsCellInOrder is (record {
-      parameters = (things_found parameter (λ (p : RawParam). p.name) (λ p. ⊤) reads_parameter members.0 (codes "parameters") parameters.0 ordered parameters.1).0;
-      attributes = attributes_found members.0 attributes.0 ordered attributes.1;
-      connections = (things_found connection (λ (p : Connection). p.name) (λ p. ⊤) reads_connection members.0 (codes "connections") connections.0 ordered connections.1).0;
-    }))
+    let is = ok_gave _ _ x refl connections.2 in (
+      sym (ap (λ (c : RawCell). c.name) is),
+      subst IsCellInOrder is (record {
+        parameters = (things_found parameter (λ (p : RawParam). p.name) (λ p. ⊤) reads_parameter members.0 (codes "parameters") parameters.0 ordered parameters.1).0;
+        attributes = attributes_found members.0 attributes.0 ordered attributes.1;
+        connections = (things_found connection (λ (p : Connection). p.name) (λ p. ⊤) reads_connection members.0 (codes "connections") connections.0 ordered connections.1).0;
+      }),
+    )
 
 reads_net : Reads named_net (λ (n : RawName). n.name) IsNetInOrder
 reads_net name d x h e =

@@ -148,7 +148,7 @@ shapes : (n : ℕ) (values taints : List Word) → length values ≡ n → lengt
 shapes n values taints ev et h =
     ext_get_or 0 (map length taints) (map length values) (length-map taints length ∙ et ∙ sym (length-map values length ∙ ev))
     (λ c l. let m : c < n = (let e : length (map length taints) ≡ length taints = length-map taints length in omega arith) in
-      get_or-map length taints c [] 0 (omega arith) ∙ h c m ∙ sym (get_or-map length values c [] 0 (omega arith)))
+    get_or-map length taints c [] 0 (omega arith) ∙ h c m ∙ sym (get_or-map length values c [] 0 (omega arith)))
 
 pub first_shapes : (n : Netlist) (s : Stimulus) (values taints : List Word) → StartsWith n s values taints → map length taints ≡ map length values
 first_shapes n s values taints h = shapes (length n.cells) values taints h.as_many_values h.as_many_taints
@@ -165,16 +165,16 @@ pub next_taint_state : (n : Netlist) (s : Stimulus) (k : ℕ) (v t : ℕ → Boo
 unfolding taint_state
 next_taint_state n s k v t stored stored_taints values taints e f q r shape h = rw add-one (
     listed taints (λ c. taint_stored_by (role_at n c) (cell_at n c) v t (get_or (state n s k) c []) (get_or (taint_state n s k).stored c [])) (length n.cells) h.as_many_taints
-      (λ c l. h.taint c l (get_or (state n s k) c []) (get_or (taint_state n s k).stored c [])
-        (ap (λ (ws : List Word). length (get_or ws c [])) (sym r) ∙ same_at stored_taints stored c shape ∙ ap (λ (ws : List Word). length (get_or ws c [])) q))
+    (λ c l. h.taint c l (get_or (state n s k) c []) (get_or (taint_state n s k).stored c [])
+    (ap (λ (ws : List Word). length (get_or ws c [])) (sym r) ∙ same_at stored_taints stored c shape ∙ ap (λ (ws : List Word). length (get_or ws c [])) q))
     ∙ ap (λ (g : ℕ → Bool). (next_taints n (state n s k) g (taint_state n s k) t).stored) e
     ∙ ap (λ (g : ℕ → Bool). (next_taints n (state n s k) (value n s k) (taint_state n s k) g).stored) f) where
-  same_at : (us ws : List Word) (c : ℕ) → map length us ≡ map length ws → length (get_or us c []) ≡ length (get_or ws c [])
-  same_at [] [] c e = refl
-  same_at [] (w ∷ ws) c e = absurd (cc)
-  same_at (u ∷ us) [] c e = absurd (cc)
-  same_at (u ∷ us) (w ∷ ws) zero e = cc
-  same_at (u ∷ us) (w ∷ ws) (suc c) e = same_at us ws c (cc)
+      same_at : (us ws : List Word) (c : ℕ) → map length us ≡ map length ws → length (get_or us c []) ≡ length (get_or ws c [])
+      same_at [] [] c e = refl
+      same_at [] (w ∷ ws) c e = absurd (cc)
+      same_at (u ∷ us) [] c e = absurd (cc)
+      same_at (u ∷ us) (w ∷ ws) zero e = cc
+      same_at (u ∷ us) (w ∷ ws) (suc c) e = same_at us ws c (cc)
 
 pub next_shapes : (n : Netlist) (v t : ℕ → Bool) (values taints : List Word) → NextWords n v t values taints → map length taints ≡ map length values
 next_shapes n v t values taints h = shapes (length n.cells) values taints h.as_many_values h.as_many_taints h.shape
@@ -212,7 +212,7 @@ pub holds_frame : (c d : CaseOf) (k : ℕ) (raw : Raw) (s : Stimulus) (bits bit_
     → IsWired (netlist_of raw) → HoldsInputs (netlist_of raw) s k values taints → Marks (net_of d) marks (is_released d.stimulus.lines)
     → ((b : ℕ) → bit bits b ≡ value_in (netlist_of raw) seen (input_bits seen_values) b)
     → ((flags : List Bool) (released : ℕ → Bool) → Marks (netlist_of raw) marks released
-      → (b : ℕ) → bit bit_taints b ≡ settled_taint (netlist_of raw) seen (value_in (netlist_of raw) seen (input_bits seen_values)) (record { stored = seen_taints; flags = flags }) (input_bits seen_input_taints) released (length (netlist_of raw).cells) b)
+    → (b : ℕ) → bit bit_taints b ≡ settled_taint (netlist_of raw) seen (value_in (netlist_of raw) seen (input_bits seen_values)) (record { stored = seen_taints; flags = flags }) (input_bits seen_input_taints) released (length (netlist_of raw).cells) b)
     → HoldsFrame c k bits bit_taints stored stored_taints
 holds_frame c d k raw s bits bit_taints marks stored stored_taints seen seen_taints values taints seen_values seen_input_taints eraw es ed e1 e2 e3 e4 f g shape wired inputs marked q r =
     let same : shown_case c raw s ≡ c = (λ i. record { raw = eraw i; order = c.order; stimulus = es i }) in
@@ -230,20 +230,21 @@ holds_frame c d k raw s bits bit_taints marks stored stored_taints seen seen_tai
       };
       same_shape = shape;
     })
+
 -- ---- from frame to frame
 
 pub next_state_of : (c : CaseOf) (k : ℕ) (raw : Raw) (values taints seen seen_taints : List Bool) (new_values new_taints : List Word) → raw ≡ c.raw → seen ≡ values → ((b : ℕ) → bit values b ≡ value (net_of c) c.stimulus k b)
     → NextWords (netlist_of raw) (bit seen) (bit seen_taints) new_values new_taints → new_values ≡ state (net_of c) c.stimulus (k + 1)
 next_state_of c k raw values taints seen seen_taints new_values new_taints e q h w =
     next_state (net_of c) c.stimulus k (bit seen) (bit seen_taints) new_values new_taints
-      (same_function _ _ (λ b. ap (λ (bs : List Bool). bit bs b) q ∙ h b)) (subst (λ (x : Raw). NextWords (netlist_of x) (bit seen) (bit seen_taints) new_values new_taints) e w)
+    (same_function _ _ (λ b. ap (λ (bs : List Bool). bit bs b) q ∙ h b)) (subst (λ (x : Raw). NextWords (netlist_of x) (bit seen) (bit seen_taints) new_values new_taints) e w)
 
 pub next_taints_of : (c : CaseOf) (k : ℕ) (raw : Raw) (values taints seen seen_taints : List Bool) (stored stored_taints new_values new_taints : List Word) → raw ≡ c.raw → seen ≡ values → seen_taints ≡ taints
     → HoldsFrame c k values taints stored stored_taints → NextWords (netlist_of raw) (bit seen) (bit seen_taints) new_values new_taints → new_taints ≡ (taint_state (net_of c) c.stimulus (k + 1)).stored
 next_taints_of c k raw values taints seen seen_taints stored stored_taints new_values new_taints e q r h w =
     next_taint_state (net_of c) c.stimulus k (bit seen) (bit seen_taints) stored stored_taints new_values new_taints
-      (same_function _ _ (λ b. ap (λ (bs : List Bool). bit bs b) q ∙ h.shown.net_values b)) (same_function _ _ (λ b. ap (λ (bs : List Bool). bit bs b) r ∙ h.shown.net_taints b))
-      h.shown.state_values h.shown.state_taints h.same_shape (subst (λ (x : Raw). NextWords (netlist_of x) (bit seen) (bit seen_taints) new_values new_taints) e w)
+    (same_function _ _ (λ b. ap (λ (bs : List Bool). bit bs b) q ∙ h.shown.net_values b)) (same_function _ _ (λ b. ap (λ (bs : List Bool). bit bs b) r ∙ h.shown.net_taints b))
+    h.shown.state_values h.shown.state_taints h.same_shape (subst (λ (x : Raw). NextWords (netlist_of x) (bit seen) (bit seen_taints) new_values new_taints) e w)
 
 pub first_state_of : (c : CaseOf) (raw : Raw) (s : Stimulus) (values taints : List Word) → raw ≡ c.raw → s ≡ c.stimulus → StartsWith (netlist_of raw) s values taints → values ≡ state (net_of c) c.stimulus 0
 first_state_of c raw s values taints e q h = first_state (netlist_of raw) s values taints h ∙ ap (λ (x : Raw). state (netlist_of x) s 0) e ∙ ap (λ (x : Stimulus). state (net_of c) x 0) q

@@ -64,7 +64,13 @@ fn frame_with(
         stored: &stored.values,
         stored_taints: &stored.taints,
     };
-    let bits = settled(alloc, netlist, case.levels().items(), case.released(), start)?;
+    let bits = settled(
+        alloc,
+        netlist,
+        case.levels().items(),
+        case.released(),
+        start,
+    )?;
     Ok(Frame {
         case,
         cycle,
