@@ -3,6 +3,7 @@
 
 mod fault;
 mod form;
+mod inputs;
 mod line;
 mod ports;
 mod read;
@@ -12,6 +13,7 @@ mod text;
 mod walk;
 
 pub use fault::StimFault;
+pub use inputs::{InputMap, Inputs};
 pub use line::{Pair, StimLine};
 pub use read::read_stimulus;
 pub use stimulus::Stimulus;
