@@ -189,3 +189,35 @@ held_is n s names i lines p setter at seen h is =
     ∙ ap (word_by s.lines) there
     ∙ sym (at.stops (get_or n.inputs p no_wire).name _)
     ∙ sym (at.so_far (get_or n.inputs p no_wire).name (get_or names.homes.items p 0) i.cycle (at.looked_up.homes p h) (omega arith))
+
+-- the same, of the lists that are lent for the walk
+pub so_far_moved : (n : Netlist) (s : Stimulus) (names : InputMap) (lines : List StimLine) (targets : List (Option ℕ)) (cycle later from to : ℕ) (was before after : List (Option ℕ)) → IsMapOf n s names → map line_seen lines ≡ s.lines → targets ≡ names.targets.items → before ≡ was → cycle ≤ later → SoFar n s cycle from was
+    → ((ports : List Wire) → targets ≡ map (target_of ports) (map line_seen lines) → Passes ports (map line_seen lines) later from before to after) → SoFar n s later to after
+so_far_moved n s names lines targets cycle later from to was before after known seen lent same rise so_far passes =
+    let P : List (Option ℕ) → Type 0 = λ b. SoFar n s cycle from b in
+    so_far_passed n s names lines cycle later from to before after known seen rise (subst P (sym same) so_far) (λ ports e. passes ports (lent ∙ e))
+
+pub places_lent : (n : Netlist) (s : Stimulus) (names : InputMap) (targets setters was : List (Option ℕ)) → IsMapOf n s names → targets ≡ names.targets.items → setters ≡ was → length was ≡ length n.inputs → (i h : ℕ) → get_or targets i None ≡ Some h → h < length setters
+places_lent n s names targets setters was known lent same as_many i h e =
+    let inside = places_inside n s names i h known (ap (λ (ts : List (Option ℕ)). get_or ts i None) (sym lent) ∙ e) in
+    let long : length setters ≡ length n.inputs = ap (λ (ss : List (Option ℕ)). length ss) same ∙ as_many in
+    omega arith
+
+-- a cursor, by the list that was written
+pub is_at : (n : Netlist) (s : Stimulus) (names : InputMap) (i : Inputs) (written : List (Option ℕ)) → i.setters.items ≡ written → IsMapOf n s names → length written ≡ length n.inputs → i.passed ≤ length s.lines → SoFar n s i.cycle i.passed written → Stops s.lines i.cycle i.passed → IsAt n s names i
+is_at n s names i written same known as_many inside so_far stops = record {
+  looked_up = known;
+  as_many = ap (λ (ss : List (Option ℕ)). length ss) same ∙ as_many;
+  inside = inside;
+  so_far = let P : List (Option ℕ) → Type 0 = λ ss. SoFar n s i.cycle i.passed ss in subst P (sym same) so_far;
+  stops = stops;
+}
+
+pub home_lent : (n : Netlist) (s : Stimulus) (names : InputMap) (i : Inputs) (p home : ℕ) → IsAt n s names i → p < length n.inputs → home ≡ get_or names.homes.items p home → (home ≡ get_or names.homes.items p 0) × (home < length i.setters.items)
+home_lent n s names i p home at h is =
+    let known = at.looked_up in
+    let within : p < length names.homes.items = (let e = known.as_many in omega arith) in
+    let same : home ≡ get_or names.homes.items p 0 = is ∙ get_or_default names.homes.items p home 0 within in
+    let inside = home_inside n s names p known h in
+    let long = at.as_many in
+    (same, omega arith)

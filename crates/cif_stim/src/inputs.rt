@@ -1,5 +1,5 @@
 // The words that input ports hold, from cycle to cycle.
-ghost use Rattle.std.specs.Prelude.{◌≡◌, ◌+◌, ◌<◌, ◌≤◌, ◌^◌, ℕ, List, map, length, get_or, Some, None, IfOk, IfSome};
+ghost use Rattle.std.specs.Prelude.{◌≡◌, ◌+◌, ◌<◌, ◌≤◌, ◌^◌, ℕ, List, map, length, get_or, replicate, Some, None, IfOk, IfSome};
 ghost use Rattle.cif_defs.specs.Words.{bit};
 ghost use Rattle.cif_defs.specs.Accepted.{netlist_of};
 ghost use Rattle.cif_defs.specs.Netlist.{Netlist as NetlistData, no_wire};
@@ -99,6 +99,13 @@ fn is_later(line: &StimLine, cycle: u64) -> bool
     }
 }
 
+/// No setter for so many places.
+fn unset(alloc: Global, count: usize) -> Result<Vec<Option<usize>>, AllocError>
+    ensures { IfOk result (λ v. v.items ≡ replicate count None) }
+{
+    vec![in alloc; None; count]
+}
+
 /// Notes that a line sets the port at a place, if it sets one.
 fn note_setter(setters: &mut [Option<usize>], target: Option<usize>, number: usize)
     requires { IfSome target (λ h. h < length setters.old) }
@@ -166,7 +173,7 @@ impl Inputs {
             (λ i. IsAt (netlist_of netlist.now) stimulus.now names.now i) }
         ensures cycle { IfOk result (λ i. cycle_of i ≡ 0) }
     {
-        let mut setters = vec![in alloc; None; netlist.inputs().len()]?;
+        let mut setters = unset(alloc, netlist.inputs().len())?;
         let passed = pass(&mut setters, 0, 0, &names.targets, stimulus.lines());
         Ok(Inputs {
             cycle: 0,
