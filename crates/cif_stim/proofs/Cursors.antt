@@ -58,13 +58,13 @@ word_after ports lines i setters name q v h None is g f inside =
 word_after ports lines i setters name q v h (Some t) is g f inside = word_at (same_or_not h t) where
   word_at : (h ≡ t) ⊎ (h ≢ t) → (if bytes_eq name q then v else word_by lines (setter_at setters h)) ≡ word_by lines (setter_at (set setters t (Some i)) h)
   word_at (inl e) =
-    let same : name ≡ q = one_place ports name q h (f ∙ ap (λ k. Some k) (sym e)) g in
-    let there : setter_at (set setters t (Some i)) h ≡ Some i = ap (setter_at (set setters t (Some i))) e ∙ get_or-set_same setters t (Some i) None inside in
-    ap (λ b. if b then v else word_by lines (setter_at setters h)) ((bytes_eq-Decides name q).1 same)
-    ∙ sym (ap (word_by lines) there ∙ ap word_of is)
+      let same : name ≡ q = one_place ports name q h (f ∙ ap (λ k. Some k) (sym e)) g in
+      let there : setter_at (set setters t (Some i)) h ≡ Some i = ap (setter_at (set setters t (Some i))) e ∙ get_or-set_same setters t (Some i) None inside in
+      ap (λ b. if b then v else word_by lines (setter_at setters h)) ((bytes_eq-Decides name q).1 same)
+      ∙ sym (ap (word_by lines) there ∙ ap word_of is)
   word_at (inr d) =
-    ap (λ b. if b then v else word_by lines (setter_at setters h)) (other_name ports name q (Some t) (Some h) f g (λ e. d (let s : t ≡ h = cc in sym s)))
-    ∙ ap (word_by lines) (sym (get_or-set_other setters t h (Some i) None d))
+      ap (λ b. if b then v else word_by lines (setter_at setters h)) (other_name ports name q (Some t) (Some h) f g (λ e. d (let s : t ≡ h = cc in sym s)))
+      ∙ ap (word_by lines) (sym (get_or-set_other setters t h (Some i) None d))
 
 -- one line more
 held_step : (ports : List Wire) (lines : List LineData) (i k : ℕ) (setters : List (Option ℕ)) (x : LineData) (rest : List LineData) (q : List ℕ) (h m : ℕ) → get_or lines i (cycle_line 0) ≡ x → place_named ports q ≡ Some h → k ≤ m → is_later_line k x ≡ false → IfSome (target_of ports x) (λ t. t < length setters)
@@ -90,12 +90,12 @@ pub passes_line : (ports : List Wire) (lines : List StimLine) (targets : List (O
 passes_line ports lines targets k from i first setters after x later so_far h is test so same inside made =
     let within : i < length (map line_seen lines) = (let e : length (map line_seen lines) ≡ length lines = simp length-map in omega arith) in
     let target : get_or targets i None ≡ target_of ports (get_or (map line_seen lines) i (cycle_line 0)) =
-        ap (λ (ts : List (Option ℕ)). get_or ts i None) same ∙ get_or-map (target_of ports) (map line_seen lines) i (cycle_line 0) None within in
+    ap (λ (ts : List (Option ℕ)). get_or ts i None) same ∙ get_or-map (target_of ports) (map line_seen lines) i (cycle_line 0) None within in
     let P : Option ℕ → Type 0 = λ o. IfSome o (λ t. t < length setters) in
     passes_step ports (map line_seen lines) k from i first setters after so_far within
-      (ap (is_later_line k) (sym (seen_at lines i x (cycle_line 0) h is)) ∙ sym test ∙ so)
-      (subst P target inside)
-      (made ∙ ap (λ o. setters_after setters o i) target)
+    (ap (is_later_line k) (sym (seen_at lines i x (cycle_line 0) h is)) ∙ sym test ∙ so)
+    (subst P target inside)
+    (made ∙ ap (λ o. setters_after setters o i) target)
 
 pub if_some : (o : Option ℕ) (n : ℕ) → ((h : ℕ) → o ≡ Some h → h < n) → IfSome o (λ t. t < n)
 if_some None n k = tt

@@ -9,6 +9,8 @@ mod ports;
 mod read;
 mod reader;
 mod stimulus;
+#[cfg(test)]
+mod tests;
 mod text;
 mod walk;
 

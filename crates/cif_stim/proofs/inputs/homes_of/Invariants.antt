@@ -6,4 +6,5 @@ use Rattle.cif_stim.proofs.inputs.homes_of.Given as goal
 abbrev pub invariant-loop-port : goal.invariant-loop-port
 invariant-loop-port l = record {
   as_many : length l.homes.items ≡ l.port-index;
-  places : (p : ℕ) → p < l.port-index → place_named l.ports (get_or l.ports p no_wire).name ≡ Some (get_or l.homes.items p 0) }
+  places : (p : ℕ) → p < l.port-index → place_named l.ports (get_or l.ports p no_wire).name ≡ Some (get_or l.homes.items p 0);
+}
