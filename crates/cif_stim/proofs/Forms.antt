@@ -49,7 +49,7 @@ group_words verb number h n cycles g =
     let parts = both (bytes_eq verb (codes "@")) (is_plain_word number) h in
     let P : List ℕ → Type 0 = λ u. (if list_all is_plain_word (u ∷ number ∷ []) then line_read n cycles g (u ∷ number ∷ []) else None) ≡ option_and_then (cycle_read cycles g) (number_read number) in
     subst P (sym ((bytes_eq-Decides verb (codes "@")).0 parts.0))
-      (ap (λ b. if b && true then option_and_then (cycle_read cycles g) (number_read number) else None) parts.1)
+    (ap (λ b. if b && true then option_and_then (cycle_read cycles g) (number_read number) else None) parts.1)
 
 -- two other words
 pub not_group : (verb number : List ℕ) → (bytes_eq verb (codes "@") && is_plain_word number) ≡ false → (n : Netlist) (cycles : ℕ) (g : GroupState) → step_of n cycles g (verb ∷ number ∷ []) ≡ None

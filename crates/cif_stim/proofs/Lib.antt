@@ -8,3 +8,4 @@ pub mod Sets
 pub mod Forms
 pub mod Heads
 pub mod Groups
+pub mod Cursors

@@ -1,5 +1,5 @@
 -- The places of ports by name.
-use Rattle.std.specs.Prelude.{ℕ, zero, suc, ◌+◌, ◌-◌, ◌<◌, ◌≤◌, ◌≡◌, Bool, true, false, List, [], ◌∷◌, length, get_or, drop, bytes_eq, Option, Some, None, option_and_then, refl}
+use Rattle.std.specs.Prelude.{ℕ, zero, suc, ◌+◌, ◌-◌, ◌<◌, ◌≤◌, ◌≡◌, Bool, true, false, List, [], ◌∷◌, length, get_or, drop, bytes_eq, Option, Some, None, IsSome, option_and_then, refl}
 use Rattle.std.proofs.Common.{arith, sym, ap, subst, ◌∙◌, cond, if◌then◌else◌}
 use Rattle.std.specs.List.{find, position_from, list_any}
 use Rattle.std.proofs.lemmas.List.{at_drop_more, at_drop_all, get_or_default}
@@ -95,3 +95,20 @@ pub settable_some : (n : Netlist) (name : List ℕ) (p : ℕ) (w : Wire) (clock 
 settable_some n name p w clock h is test so =
     let t : list_any (is_clock_source n) (get_or n.inputs p no_wire).bits ≡ false = ap (λ (v : Wire). list_any (is_clock_source n) v.bits) (sym is) ∙ sym test ∙ so in
     settable_by n name p h ∙ ap (λ b. if b then None else Some (get_or n.inputs p no_wire)) t
+
+-- a port's own name has a place
+own_step : (name : List ℕ) (i k : ℕ) (w : Wire) (ws : List Wire) (s : Bool) → bytes_eq w.name name ≡ s → (bytes_eq (get_or (w ∷ ws) k no_wire).name name ≡ true) → k < suc (length ws) → ((j : ℕ) → j < length ws → bytes_eq (get_or ws j no_wire).name name ≡ true → IsSome (place_from (i + 1) ws name)) → IsSome (cond s (Some i) (place_from (i + 1) ws name))
+own_step name i k w ws true t e h next = refl
+own_step name i zero w ws false t e h next = absurd (cc)
+own_step name i (suc k) w ws false t e h next = next k (omega arith) e
+
+own_from : (name : List ℕ) (i : ℕ) (ports : List Wire) (k : ℕ) → k < length ports → bytes_eq (get_or ports k no_wire).name name ≡ true → IsSome (place_from i ports name)
+own_from name i [] k h e = absurd (omega arith)
+own_from name i (w ∷ ws) k h e = own_step name i k w ws (bytes_eq w.name name) refl e h (λ j l f. own_from name (i + 1) ws j l f)
+
+pub own_place : (ports : List Wire) (p : ℕ) (w : Wire) (name : List ℕ) (r : Option ℕ) → p < length ports → w ≡ get_or ports p w → name ≡ w.name → r ≡ place_named ports name → IsSome r
+unfolding place_named
+own_place ports p w name r h is same found =
+    let P : Option ℕ → Type 0 = λ o. IsSome o in
+    let at : (get_or ports p no_wire).name ≡ name = ap (λ (v : Wire). v.name) (sym (is ∙ get_or_default ports p w no_wire h)) ∙ sym same in
+    subst P (sym found) (own_from name 0 ports p h ((bytes_eq-Decides (get_or ports p no_wire).name name).1 at))

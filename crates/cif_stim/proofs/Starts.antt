@@ -43,9 +43,9 @@ started-none (Set port value taint ∷ ls) c w h = started-none ls c w h
 starts_more_at : (ls : List StimLine) (i : ℕ) (d : StimLine) (c : Cell) (place : ℕ) (given now next : Pair) → i < length ls → Starts (map line_seen (take i ls)) c place given now → Starts (line_seen (get_or ls i d) ∷ []) c place now next → Starts (map line_seen (take (i + 1) ls)) c place given next
 starts_more_at ls i d c place given now next h before step = λ w had.
     let seen : map line_seen (take (i + 1) ls) ≡ map line_seen (take i ls) ++ line_seen (get_or ls i d) ∷ [] =
-        ap (map line_seen) (take_more ls i d h) ∙ map-append line_seen (take i ls) (get_or ls i d ∷ []) in
+    ap (map line_seen) (take_more ls i d h) ∙ map-append line_seen (take i ls) (get_or ls i d ∷ []) in
     let whole : started_by (map line_seen (take (i + 1) ls)) c w ≡ started_by (line_seen (get_or ls i d) ∷ []) c (started_by (map line_seen (take i ls)) c w) =
-        ap (λ (xs : List LineData). started_by xs c w) seen ∙ started-append (map line_seen (take i ls)) _ c w in
+    ap (λ (xs : List LineData). started_by xs c w) seen ∙ started-append (map line_seen (take i ls)) _ c w in
     let P : TaintedWord → Type 0 = λ u. HasBits u place next in
     subst P (sym whole) (step _ (before w had))
 
@@ -93,11 +93,11 @@ row_hit line c name v t a i given result is h same row e f = λ w had.
     let P : StimLine → Type 0 = λ l. HasBits (started_by (line_seen l ∷ []) c w) i result in
     subst P (sym is) (record {
       value = ap (λ b. bit (if b then tainted (with_row (state_bits c) (width c) (a - number_of c Offset) v w.value) (with_row (state_bits c) (width c) (a - number_of c Offset) t w.taint) else w).value i) same
-        ∙ row_bit (state_bits c) (width c) (a - number_of c Offset) v w.value i h
-        ∙ ap (λ b. if b then bit v (i % width c) else bit w.value i) test ∙ sym e;
+          ∙ row_bit (state_bits c) (width c) (a - number_of c Offset) v w.value i h
+          ∙ ap (λ b. if b then bit v (i % width c) else bit w.value i) test ∙ sym e;
       taint = ap (λ b. bit (if b then tainted (with_row (state_bits c) (width c) (a - number_of c Offset) v w.value) (with_row (state_bits c) (width c) (a - number_of c Offset) t w.taint) else w).taint i) same
-        ∙ row_bit (state_bits c) (width c) (a - number_of c Offset) t w.taint i h
-        ∙ ap (λ b. if b then bit t (i % width c) else bit w.taint i) test ∙ sym f;
+          ∙ row_bit (state_bits c) (width c) (a - number_of c Offset) t w.taint i h
+          ∙ ap (λ b. if b then bit t (i % width c) else bit w.taint i) test ∙ sym f;
     })
 
 -- a bit in another row
@@ -107,11 +107,11 @@ row_miss line c name v t a i given is h same row = λ w had.
     let P : StimLine → Type 0 = λ l. HasBits (started_by (line_seen l ∷ []) c w) i given in
     subst P (sym is) (record {
       value = ap (λ b. bit (if b then tainted (with_row (state_bits c) (width c) (a - number_of c Offset) v w.value) (with_row (state_bits c) (width c) (a - number_of c Offset) t w.taint) else w).value i) same
-        ∙ row_bit (state_bits c) (width c) (a - number_of c Offset) v w.value i h
-        ∙ ap (λ b. if b then bit v (i % width c) else bit w.value i) test ∙ had.value;
+          ∙ row_bit (state_bits c) (width c) (a - number_of c Offset) v w.value i h
+          ∙ ap (λ b. if b then bit v (i % width c) else bit w.value i) test ∙ had.value;
       taint = ap (λ b. bit (if b then tainted (with_row (state_bits c) (width c) (a - number_of c Offset) v w.value) (with_row (state_bits c) (width c) (a - number_of c Offset) t w.taint) else w).taint i) same
-        ∙ row_bit (state_bits c) (width c) (a - number_of c Offset) t w.taint i h
-        ∙ ap (λ b. if b then bit t (i % width c) else bit w.taint i) test ∙ had.taint;
+          ∙ row_bit (state_bits c) (width c) (a - number_of c Offset) t w.taint i h
+          ∙ ap (λ b. if b then bit t (i % width c) else bit w.taint i) test ∙ had.taint;
     })
 
 -- ---- the whole
@@ -139,7 +139,7 @@ starts_in n s cell i starts owner stored lines given pair is test kept seen late
     let stepped : Starts (map line_seen (take starts lines)) (cell_at n cell) i given pair = subst P is step in
     let got = stepped first (record { value = value; taint = taint }) in
     let whole : started_by s.lines (cell_at n cell) first ≡ started_by (map line_seen (take starts lines)) (cell_at n cell) first =
-        ap (λ (xs : List LineData). started_by xs (cell_at n cell) first) seen ∙ started-front lines starts (cell_at n cell) first later in
+    ap (λ (xs : List LineData). started_by xs (cell_at n cell) first) seen ∙ started-front lines starts (cell_at n cell) first later in
     record {
       value = bit-word _ _ i false within ∙ ap (λ (w : TaintedWord). bit w.value i) whole ∙ got.value;
       taint = bit-word _ _ i false within ∙ ap (λ (w : TaintedWord). bit w.taint i) whole ∙ got.taint;

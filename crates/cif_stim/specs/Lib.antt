@@ -6,3 +6,4 @@ pub mod Ports
 pub mod Reading
 pub mod Forms
 pub mod Heads
+pub mod Cursor

@@ -3,15 +3,19 @@
 
 mod fault;
 mod form;
+mod inputs;
 mod line;
 mod ports;
 mod read;
 mod reader;
 mod stimulus;
+#[cfg(test)]
+mod tests;
 mod text;
 mod walk;
 
 pub use fault::StimFault;
+pub use inputs::{InputMap, Inputs};
 pub use line::{Held, Pair, StimLine};
 pub use read::read_stimulus;
 pub use stimulus::Stimulus;

@@ -38,7 +38,10 @@ pub enum StimLine {
         taint: Bits,
     },
     /// A net whose taint is dropped on purpose.
-    Release { name: Name, wire: Wire },
+    Release {
+        name: Name,
+        wire: Wire,
+    },
     /// The cycle, counted from 0, of the sets that follow.
     Cycle(u64),
     /// The word that an input port holds from that cycle on, until it is set again.

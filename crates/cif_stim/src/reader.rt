@@ -4,8 +4,6 @@ ghost use Rattle.std.specs.List.{list_any};
 ghost use Rattle.cif_defs.specs.WordText.{word_of_text};
 ghost use Rattle.cif_defs.specs.Accepted.{netlist_of};
 ghost use Rattle.cif_defs.specs.Netlist.{Netlist as NetlistData, no_wire};
-
-
 ghost use Rattle.cif_defs.specs.StimulusText.{is_clock_source as is_clock_src, settable, is_bit_word, cycle_read, is_later as is_later_than, is_open};
 ghost use Rattle.cif_defs.specs.Text.{words_of, number_read};
 ghost use Rattle.cif_defs.specs.Stimulus.{set_line};
@@ -14,9 +12,9 @@ ghost use Rattle.cif_stim.specs.Ports.{IsTable, place_named};
 ghost use Rattle.cif_stim.specs.Reading.{IsReading, Takes, Refuses, Refutes, group_of, step_of, set_step, is_mark, taint_word, taint_fits};
 
 use crate::fault::StimFault;
+use crate::form::{Form, form_of};
 use crate::ports::PortTable;
 use crate::stimulus::Stimulus;
-use crate::form::{Form, form_of};
 use crate::text::read_number;
 use cif_bits::{Bits, NoMemory, TextFault};
 use cif_cells::Netlist;
@@ -28,9 +26,7 @@ fn is_clock_source(netlist: &Netlist, source: Src) -> bool
     ensures { result ≡ is_clock_src (netlist_of netlist.now) source }
 {
     match source {
-        Src::Bit(bit) => {
-            bit >= netlist.bits() || matches!(netlist.driver(bit), Driver::Clock)
-        }
+        Src::Bit(bit) => { bit >= netlist.bits() || matches!(netlist.driver(bit), Driver::Clock) }
         Src::Zero | Src::One => false,
     }
 }
@@ -39,15 +35,13 @@ fn is_clock_source(netlist: &Netlist, source: Src) -> bool
 fn is_clock(netlist: &Netlist, port: &Wire) -> bool
     ensures { result ≡ list_any (is_clock_src (netlist_of netlist.now)) port.now.bits }
 {
-    port.items().iter().any(|source| is_clock_source(netlist, *source))
+    port.items()
+        .iter()
+        .any(|source| is_clock_source(netlist, *source))
 }
 
 /// The place of the input port of a name, other than the clock.
-fn settable_place<'a>(
-    netlist: &Netlist,
-    table: &PortTable<'a>,
-    name: &'a [u8],
-) -> Option<usize>
+fn settable_place<'a>(netlist: &Netlist, table: &PortTable<'a>, name: &'a [u8]) -> Option<usize>
     requires { IsTable (netlist_of netlist.now).inputs table.now }
     ensures none { IsNone result → settable (netlist_of netlist.now) name.now ≡ None }
     ensures inside { IfSome result (λ p. p < length (netlist_of netlist.now).inputs) }

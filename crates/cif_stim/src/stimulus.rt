@@ -151,12 +151,7 @@ impl Stimulus {
     }
 
     /// Adds the release of a net.
-    pub fn push_release(
-        &mut self,
-        alloc: Global,
-        name: Name,
-        wire: &Wire,
-    ) -> Result<(), NoMemory>
+    pub fn push_release(&mut self, alloc: Global, name: Name, wire: &Wire) -> Result<(), NoMemory>
         ensures ok { OnOk result (Adds self.old self.new (release_line name wire.now.bits)) }
         ensures err { OnErr result (self.new ≡ self.old) }
     {

@@ -18,7 +18,7 @@ pub bounds-ports-place : goal.bounds-ports-place
 bounds-ports-place c = let h = named _ _ _ (sym (c.place.ensures _ c.requires) ∙ c.in_ok-place.was) in let e = ap (λ (xs : List Wire). length xs) c.inputs-ports.ensures in omega (arith, h.inside)
 
 pub returns-then-is_clock-clause-none : goal.returns-then-is_clock-clause-none
-returns-then-is_clock-clause-none c = λ _. 
+returns-then-is_clock-clause-none c = λ _.
     let at = sym (c.place.ensures _ c.requires) ∙ c.in_ok-place.was in
     settable_clock (netlist_of c.args.netlist.now) c.args.name.now c.in_ok-place.place c.index-ports-place.result c.is_clock.result at
     (port_is (netlist_of c.args.netlist.now) _ _ _ (named _ _ _ at).inside c.inputs-ports.ensures c.index-ports-place.is)

@@ -13,8 +13,8 @@ loop-digit-preserved c =
     let next = fits_next (number_with c.loop-digit.value (get_or c.args.digits.now c.loop-digit.digit-index 0)) c.in_ok-value.value (sym c.in_ok-value.was ∙ c.with_digit.ensures) in
     record {
       so_far = ap (λ n. fold number_with n (drop (c.loop-digit.digit-index + 1) c.args.digits.now)) next.0
-        ∙ sym (digit_turn c.loop-digit.value c.loop-digit.digit-index c.args.digits.now c.loop-digit-test.true)
-        ∙ c.loop-digit.invariant.so_far;
+          ∙ sym (digit_turn c.loop-digit.value c.loop-digit.digit-index c.args.digits.now c.loop-digit-test.true)
+          ∙ c.loop-digit.invariant.so_far;
       fits = next.1;
     }
 

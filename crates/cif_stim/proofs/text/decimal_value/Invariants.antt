@@ -6,4 +6,5 @@ use Rattle.cif_stim.proofs.text.decimal_value.Given as goal
 abbrev pub invariant-loop-digit : goal.invariant-loop-digit
 invariant-loop-digit l = record {
   so_far : fold number_with l.value (drop l.digit-index l.digits) ≡ decimal_number l.digits;
-  fits : l.value < 2 ^ 64 }
+  fits : l.value < 2 ^ 64;
+}

@@ -20,4 +20,4 @@ returns-else-index-width c =
     c.requires
     (sym c.if-is_named-2.ensures)
     (λ e. c.if-index-width.false
-      (ap (λ n. c.args.index / n) c.number-width.ensures ∙ e ∙ ap (λ n. c.in-Mem.address - n) (sym c.number.ensures) ∙ sym c.saturating_sub-row.ensures))
+    (ap (λ n. c.args.index / n) c.number-width.ensures ∙ e ∙ ap (λ n. c.in-Mem.address - n) (sym c.number.ensures) ∙ sym c.saturating_sub-row.ensures))

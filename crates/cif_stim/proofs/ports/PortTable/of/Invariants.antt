@@ -8,7 +8,8 @@ use Rattle.cif_stim.proofs.ports.PortTable.of.Given as goal
 abbrev pub invariant-loop-place : goal.invariant-loop-place
 invariant-loop-place l = record {
   inside : l.place ≤ length l.ports;
-  found : (name : List ℕ) → get_by (λ k. slice_cmp nat_cmp name k.now) l.places ≡ place_from l.place (drop l.place l.ports) name }
+  found : (name : List ℕ) → get_by (λ k. slice_cmp nat_cmp name k.now) l.places ≡ place_from l.place (drop l.place l.ports) name;
+}
 
 abbrev pub decreases-loop-place : goal.decreases-loop-place
 decreases-loop-place l = l.place
