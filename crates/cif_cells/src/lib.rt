@@ -4,6 +4,7 @@
 mod cell;
 mod fault;
 mod netlist;
+mod numbers;
 mod raw_access;
 mod ports;
 pub mod table;
