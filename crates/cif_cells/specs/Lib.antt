@@ -2,3 +2,6 @@ pub mod CellView
 pub mod Checks
 pub mod InputNumbers
 pub mod NetlistView
+pub mod Told
+pub mod Drives
+pub mod Kept

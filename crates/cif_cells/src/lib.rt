@@ -2,6 +2,7 @@
 #![tactic(auto)]
 
 mod cell;
+mod drives;
 mod fault;
 mod netlist;
 mod numbers;
