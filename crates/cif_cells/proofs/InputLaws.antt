@@ -1,5 +1,5 @@
 -- Net numbers at input places: what a set of them holds, and that checks read a list of them by what it holds.
-use Rattle.std.specs.Prelude.{ℕ, ◌+◌, ◌<◌, ◌≡◌, Bool, true, false, ◌||◌, ◌==◌, List, [], ◌∷◌, ◌++◌, length, get_or, drop, Option, None, Some, if◌then◌else◌}
+use Rattle.std.specs.Prelude.{ℕ, ◌+◌, ◌<◌, ◌≡◌, Bool, true, false, ◌||◌, ◌==◌, List, [], ◌∷◌, ◌++◌, length, get_or, drop, None, Some, if◌then◌else◌}
 use Rattle.std.specs.List.{list_any}
 use Rattle.std.specs.Ordering.{nat_cmp, is_eq}
 use Rattle.std.specs.Cmp.{unsigned_tied}
@@ -13,7 +13,6 @@ use Rattle.cif_defs.specs.declared.raw_module.RawBit.{RawBit}
 use Rattle.cif_defs.specs.declared.raw_module.RawBit.TheVariants.{Net, Zero, One, X, Z}
 use Rattle.cif_defs.specs.declared.raw_module.RawPort.{RawPort}
 use Rattle.cif_cells.specs.declared.fault.Spot.TheVariants.{Port}
-use Rattle.cif_cells.specs.declared.fault.BuildFault.{BuildFault}
 use Rattle.cif_cells.specs.declared.fault.BuildFault.TheVariants.{PortClash, InoutPort, ZeroWidth, WidthLimit}
 use Rattle.cif_cells.specs.Checks.{◌else_by◌, fault_if, is_inout, port_limit, has_number, input_clash, constant_input, port_fault, seen_after, ports_fault_from}
 use Rattle.std.specs.Prelude.{nat_lt}
@@ -104,7 +103,7 @@ no_net bs i d h other = sym (at_drop_more nets_in bs i d h ∙ other_bit (get_or
 same_port : (p : RawPort) (s t : List ℕ) → HoldSame s t → port_fault s p ≡ port_fault t p
 same_port p s t h =
     ap (λ o. fault_if (is_inout p.direction) (InoutPort p.name) else_by fault_if (length p.bits == 0) (ZeroWidth (Port p.name)) else_by fault_if (nat_lt port_limit (length p.bits)) (WidthLimit (Port p.name)) else_by (if is_input p then constant_input p else_by o else None))
-      (same_clash (nets_in p.bits) s t h)
+    (same_clash (nets_in p.bits) s t h)
 
 same_after : (b : Bool) (xs s t : List ℕ) → HoldSame s t → HoldSame (if b then xs ++ s else s) (if b then xs ++ t else t)
 same_after true xs s t h = append_same xs s t h

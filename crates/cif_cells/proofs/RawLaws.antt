@@ -1,8 +1,8 @@
 -- What a raw cell gives for a name, found from front to back, and numbers of texts of binary digits.
-use Rattle.std.specs.Prelude.{ℕ, zero, suc, ◌+◌, ◌-◌, ◌*◌, ◌^◌, ◌<◌, ◌≤◌, ◌≡◌, Bool, true, false, not, ◌||◌, ◌==◌, List, [], ◌∷◌, ◌++◌, length, get_or, take, drop, map, reverse, min, bytes_eq, Option, Some, None}
-use Rattle.std.proofs.Common.{arith, ap, cond, add-one, sym, ◌∙◌, refl}
+use Rattle.std.specs.Prelude.{ℕ, zero, suc, ◌+◌, ◌-◌, ◌*◌, ◌^◌, ◌<◌, ◌≤◌, ◌≡◌, Bool, true, false, ◌==◌, List, [], ◌∷◌, ◌++◌, length, get_or, take, drop, map, reverse, bytes_eq, Option, Some, None}
+use Rattle.std.proofs.Common.{arith, ap, cond, add-one, ◌∙◌, refl}
 use Rattle.std.proofs.lemmas.List.{take_more, reverse-append, get_or-map, get_or-reverse, get_or_past, length-map, length-reverse}
-use Rattle.cif_defs.specs.Words.{number, bit_value, bit, word_of, digit}
+use Rattle.cif_defs.specs.Words.{number, bit_value, bit, digit}
 use Rattle.cif_defs.proofs.WordLaws.{bit-word, length-word}
 use Rattle.cif_defs.specs.WordText.{word_of_text}
 use Rattle.std.specs.Prelude.{ℤ, pos, negsuc, ◌≤ℤ◌, unsigned_abs}
@@ -19,7 +19,6 @@ use Rattle.cif_defs.specs.declared.raw_module.ParamValue.TheVariants.{Text, Numb
 use Rattle.cif_cells.specs.Checks.{number_or_0}
 use Rattle.cif_defs.specs.declared.raw_module.RawParam.{RawParam}
 use Rattle.cif_defs.specs.declared.raw_module.ParamValue.{ParamValue}
-use Rattle.cif_defs.specs.declared.raw_module.RawBit.{RawBit}
 use Rattle.cif_defs.specs.declared.raw_module.Connection.{Connection}
 
 pub value_at : (ps : List RawParam) (i : ℕ) (name : List ℕ) (d : RawParam) → i < length ps → bytes_eq (get_or ps i d).name name ≡ true → value_named name (drop i ps) ≡ Some (get_or ps i d).value

@@ -5,3 +5,4 @@ pub mod NetlistView
 pub mod Told
 pub mod Drives
 pub mod Kept
+pub mod PortChecks

@@ -2,12 +2,14 @@
 #![tactic(auto)]
 
 mod cell;
+mod cells;
 mod drives;
 mod fault;
 mod netlist;
 mod numbers;
-mod raw_access;
+mod parameters;
 mod ports;
+mod raw_access;
 pub mod table;
 
 pub use cell::{Cell, Digits, Given, Sources, Targets};

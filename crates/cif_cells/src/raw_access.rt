@@ -5,11 +5,12 @@ ghost use Rattle.cif_defs.specs.Words.{bit, number as number_of_word};
 ghost use Rattle.cif_defs.specs.WordText.{word_of_text, is_no_digit};
 ghost use Rattle.cif_defs.specs.Table.{param_text};
 ghost use Rattle.cif_defs.specs.RawModule.{value_named as value_by_name, bits_named as bits_by_name, is_binary as is_binary_text, below_limit_int as limited, int_digits, needed_number as needed_number_of, digits_read, number_given as number_of_cell, digits_given, connected as connected_bits, port_bits as bits_of_port};
-
 ghost use Rattle.cif_cells.specs.Checks.{number_or_0 as number_or_0_of, row_width as row_width_of};
 
 use crate::table;
-use cif_defs::{Connection, Name, Param, ParamValue, PortRow, PortWidth, RawBit, RawCell, RawParam};
+use cif_defs::{
+    Connection, Name, Param, ParamValue, PortRow, PortWidth, RawBit, RawCell, RawParam,
+};
 use std::alloc::{AllocError, Global};
 
 /// Needed numbers are below this.
@@ -156,13 +157,7 @@ pub fn digit_count(value: &ParamValue) -> u64
 {
     match value {
         ParamValue::Text(text) => text.items().len() as u64,
-        ParamValue::Number(number) => {
-            if *number < 0 {
-                0
-            } else {
-                32
-            }
-        }
+        ParamValue::Number(number) => { if *number < 0 { 0 } else { 32 } }
     }
 }
 
@@ -214,7 +209,10 @@ pub fn row_width(cell: &RawCell, row: &PortRow) -> Option<u64>
         PortWidth::Product(first, second) => {
             number_or_0(cell, first).checked_mul(number_or_0(cell, second))
         }
-        PortWidth::Blocks(count, power) => blocks(number_or_0(cell, count), number_or_0(cell, power)),
+        PortWidth::Blocks(count, power) => blocks(
+            number_or_0(cell, count),
+            number_or_0(cell, power),
+        ),
     }
 }
 

@@ -1,4 +1,4 @@
-use Rattle.std.proofs.Common.{◌≡◌, ℕ, ◌+◌, Bool, true, false, List, ◌∷◌, ◌++◌, drop, sym, ap, ◌∙◌}
+use Rattle.std.proofs.Common.{◌≡◌, ℕ, ◌+◌, true, false, List, ◌∷◌, ◌++◌, drop, sym, ap, ◌∙◌}
 use Rattle.cif_defs.specs.RawModule.{nets_in}
 use Rattle.std.proofs.lemmas.Bool.{not-true, not-false}
 use Rattle.std.specs.BTreeSet.{BTreeSet}
@@ -16,16 +16,17 @@ returns-in-Ok-false-clause-err c =
 pub loop-bit-preserved : goal.loop-bit-preserved
 loop-bit-preserved c =
     elim c.match-bit.branch [
-      in-Net+in-Ok-true w ↦
-        let same : HoldSame c.match-bit.seen.keys (w.in-Net.number ∷ c.loop-bit.seen.keys) = λ q. ap (λ (s : BTreeSet ℕ). has_number q s.keys) w.seen-is ∙ inserted _ _ _ w.in-Ok-true.ensures.updates.0 q in
-        let absent : has_number w.in-Net.number c.loop-bit.seen.keys ≡ false = sym (contains_number c.loop-bit.seen.keys w.in-Net.number) ∙ not-true _ (sym w.in-Ok-true.ensures.added ∙ w.in-Ok-true.field-0-test) in
-        record {
-          clash = sym (clash_step _ _ _ _ _ _ c.loop-bit-test.true w.in-Net.is absent same) ∙ c.loop-bit.invariant.clash;
-          held = λ q. numbers_step _ _ _ _ _ _ c.loop-bit-test.true w.in-Net.is same q ∙ c.loop-bit.invariant.held q;
-        }
+      | in-Net+in-Ok-true w ↦
+          let same : HoldSame c.match-bit.seen.keys (w.in-Net.number ∷ c.loop-bit.seen.keys) = λ q. ap (λ (s : BTreeSet ℕ). has_number q s.keys) w.seen-is ∙ inserted _ _ _ w.in-Ok-true.ensures.updates.0 q in
+          let absent : has_number w.in-Net.number c.loop-bit.seen.keys ≡ false = sym (contains_number c.loop-bit.seen.keys w.in-Net.number) ∙ not-true _ (sym w.in-Ok-true.ensures.added ∙ w.in-Ok-true.field-0-test) in
+          record {
+            clash = sym (clash_step _ _ _ _ _ _ c.loop-bit-test.true w.in-Net.is absent same) ∙ c.loop-bit.invariant.clash;
+            held = λ q. numbers_step _ _ _ _ _ _ c.loop-bit-test.true w.in-Net.is same q ∙ c.loop-bit.invariant.held q;
+          }
       | in_default w ↦
-        let rest : nets_in (drop (c.loop-bit.bit-index + 1) c.args.bits.now) ≡ nets_in (drop c.loop-bit.bit-index c.args.bits.now) = no_net _ _ _ c.loop-bit-test.true w.in_default.not-Net in
-        record {
-          clash = ap (λ (s : BTreeSet ℕ). input_clash s.keys (nets_in (drop (c.loop-bit.bit-index + 1) c.args.bits.now))) w.seen-is ∙ ap (input_clash c.loop-bit.seen.keys) rest ∙ c.loop-bit.invariant.clash;
-          held = λ q. ap (λ (s : BTreeSet ℕ). has_number q (nets_in (drop (c.loop-bit.bit-index + 1) c.args.bits.now) ++ s.keys)) w.seen-is ∙ ap (λ (ns : List ℕ). has_number q (ns ++ c.loop-bit.seen.keys)) rest ∙ c.loop-bit.invariant.held q;
-        } ]
+          let rest : nets_in (drop (c.loop-bit.bit-index + 1) c.args.bits.now) ≡ nets_in (drop c.loop-bit.bit-index c.args.bits.now) = no_net _ _ _ c.loop-bit-test.true w.in_default.not-Net in
+          record {
+            clash = ap (λ (s : BTreeSet ℕ). input_clash s.keys (nets_in (drop (c.loop-bit.bit-index + 1) c.args.bits.now))) w.seen-is ∙ ap (input_clash c.loop-bit.seen.keys) rest ∙ c.loop-bit.invariant.clash;
+            held = λ q. ap (λ (s : BTreeSet ℕ). has_number q (nets_in (drop (c.loop-bit.bit-index + 1) c.args.bits.now) ++ s.keys)) w.seen-is ∙ ap (λ (ns : List ℕ). has_number q (ns ++ c.loop-bit.seen.keys)) rest ∙ c.loop-bit.invariant.held q;
+          }
+    ]

@@ -7,5 +7,5 @@ use Rattle.cif_cells.proofs.ports.check_clashes.Given as goal
 abbrev pub invariant-loop-bit : goal.invariant-loop-bit
 invariant-loop-bit l = record {
   clash : input_clash l.seen.keys (nets_in (drop l.bit-index l.bits)) ≡ input_clash l.initial.seen.keys (nets_in l.bits);
-  held : HoldSame (nets_in (drop l.bit-index l.bits) ++ l.seen.keys) (nets_in l.bits ++ l.initial.seen.keys)
+  held : HoldSame (nets_in (drop l.bit-index l.bits) ++ l.seen.keys) (nets_in l.bits ++ l.initial.seen.keys);
 }

@@ -1,5 +1,5 @@
 use Rattle.std.proofs.Common.{◌≡◌, ℕ, sym, ◌∙◌, ap, arith}
-use Rattle.std.specs.Prelude.{pos, ◌≤ℤ◌, unsigned_abs}
+use Rattle.std.specs.Prelude.{unsigned_abs}
 use Rattle.std.proofs.lemmas.Int.{ints, to_z-of_z}
 use Rattle.cif_defs.specs.Words.{digit}
 use Rattle.cif_cells.proofs.RawLaws.{whole_digit_at}
