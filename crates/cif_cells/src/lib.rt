@@ -1,8 +1,10 @@
 //! Cells and netlists: what a raw module says, once it is accepted.
 #![tactic(auto)]
 
+mod assemble;
 mod cell;
 mod cells;
+mod clock;
 mod drives;
 mod fault;
 mod netlist;
