@@ -6,7 +6,8 @@ use Rattle.std.proofs.lemmas.Bool.{eqb-true}
 use Rattle.std.proofs.lemmas.List.{append-nil, at_drop_more, at_drop_all}
 use Rattle.std.proofs.lemmas.List.Folds.{list_any-append}
 use Rattle.cif_defs.specs.Table.{kind_of, clocks_of, row}
-use Rattle.cif_defs.specs.RawModule.{bits_by, clock_bits, port_bits, nets_in}
+use Rattle.cif_defs.specs.RawModule.{bits_by, clock_bits, operand_bits, port_bits, nets_in}
+use Rattle.cif_defs.specs.Accepted.{is_output}
 use Rattle.cif_defs.specs.declared.kinds.Kind.{Kind}
 use Rattle.cif_defs.specs.declared.kinds.Kind.TheVariants.{Dff, Dffe, Sdff, Sdffe, Sdffce, Adff, Adffe, Mem}
 use Rattle.cif_defs.specs.declared.kinds.Role.{Role}
@@ -23,7 +24,7 @@ use Rattle.cif_cells.specs.Checks.{◌else_by◌, fault_if, first_fault, IsFirst
 use Rattle.cif_cells.specs.Clocks.{use_seen, first_of, is_number}
 use Rattle.cif_cells.specs.declared.clock.ClockUse.{ClockUse as UseInCode}
 use Rattle.cif_cells.specs.declared.fault.BuildFault.{BuildFault}
-use Rattle.cif_cells.specs.declared.fault.BuildFault.TheVariants.{Memory, NoClockInput, TwoClocks}
+use Rattle.cif_cells.specs.declared.fault.BuildFault.TheVariants.{ClockAsData, Memory}
 use Rattle.cif_cells.proofs.Places.{nets_in-append}
 
 -- ---- the clocks of a cell
@@ -123,6 +124,16 @@ all_uses raw first ports cells p q e =
 pub no_uses : (raw : Raw) (us : List ClockUse) → None ≡ first_of us → uses_fault raw us ≡ None
 no_uses raw [] e = refl
 no_uses raw (u ∷ us) e = absurd (cc)
+
+pub net_data : (raw : Raw) (bit : RawBit) (x : ℕ) (cells : List RawCell) (ports : List RawPort) → bit ≡ Net x → cells ≡ raw.cells → ports ≡ raw.ports
+    → data_fault raw bit ≡ (first_fault (λ (c : RawCell). fault_if (reads_number x (operand_bits c)) (ClockAsData c.name)) cells
+        else_by first_fault (λ (p : RawPort). fault_if (reads_number x p.bits) (ClockAsData p.name)) (filter is_output ports))
+net_data raw bit x cells ports b c p =
+    ap (data_fault raw) b
+    ∙ ap (λ (cs : List RawCell). first_fault (λ (c : RawCell). fault_if (reads_number x (operand_bits c)) (ClockAsData c.name)) cs
+        else_by first_fault (λ (p : RawPort). fault_if (reads_number x p.bits) (ClockAsData p.name)) (filter is_output raw.ports)) (sym c)
+    ∙ ap (λ (ps : List RawPort). first_fault (λ (c : RawCell). fault_if (reads_number x (operand_bits c)) (ClockAsData c.name)) cells
+        else_by first_fault (λ (p : RawPort). fault_if (reads_number x p.bits) (ClockAsData p.name)) (filter is_output ps)) (sym p)
 
 -- ---- numbers that are read
 

@@ -7,6 +7,7 @@ mod cells;
 mod clock;
 mod drives;
 mod fault;
+mod inits;
 mod netlist;
 mod numbers;
 mod parameters;
