@@ -6,3 +6,4 @@ pub mod Told
 pub mod Drives
 pub mod Kept
 pub mod PortChecks
+pub mod Nets

@@ -6,6 +6,7 @@ mod cells;
 mod drives;
 mod fault;
 mod netlist;
+mod nets;
 mod numbers;
 mod parameters;
 mod ports;
