@@ -15,7 +15,8 @@ use Rattle.cif_defs.specs.declared.kinds.Role.TheVariants.{MemoryBlock}
 use Rattle.cif_defs.specs.declared.kinds.Param.TheVariants.{Width}
 use Rattle.cif_defs.specs.declared.kinds.PortRow.{PortRow}
 use Rattle.cif_defs.specs.declared.raw_module.RawCell.{RawCell}
-use Rattle.cif_cells.specs.Checks.{◌else_by◌, first_fault, cell_fault, known_cell_fault, parameters_fault, memory_form, zero_width, too_wide, missing_port, wrong_width, constant_output, row_width, is_wide_memory, cell_spot, number_or_0}
+use Rattle.cif_defs.specs.declared.raw_module.Raw.{Raw}
+use Rattle.cif_cells.specs.Checks.{◌else_by◌, first_fault, cell_fault, cells_fault, memory_bits_fault, known_cell_fault, parameters_fault, memory_form, zero_width, too_wide, missing_port, wrong_width, constant_output, row_width, is_wide_memory, cell_spot, number_or_0}
 use Rattle.cif_cells.specs.declared.fault.BuildFault.{BuildFault}
 use Rattle.cif_cells.specs.declared.fault.BuildFault.TheVariants.{UnsupportedCell, WidthLimit, WidthMismatch}
 use Rattle.cif_cells.proofs.Places.{Has, Has-left, Has-right}
@@ -117,3 +118,7 @@ few_outputs _ = lit≤ tt
 pub memory_has_width : (cell : RawCell) (k : Kind) → cell_fault cell ≡ None → kind_of cell.kind ≡ Some k → role_of k ≡ MemoryBlock → 0 < number_or_0 cell Width
 memory_has_width cell k h e r = (let ne : number_or_0 cell Width ≢ 0 = has_width cell (known_memory cell k r (known_passes cell k h e)) in omega arith)
 
+
+pub all_cells_pass : (raw : Raw) → cells_fault raw ≡ None → All (λ c. cell_fault c ≡ None) raw.cells
+unfolding cells_fault
+all_cells_pass raw h = all_pass cell_fault raw.cells (first_passes (first_fault cell_fault raw.cells) (memory_bits_fault raw) h)

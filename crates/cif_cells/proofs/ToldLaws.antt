@@ -44,7 +44,7 @@ told_at more (n ∷ ns) (s ∷ ss) x v (suc i) d r at l =
     ap (λ b. cond b (more s v) s ∷ told_all more ns ss ((x, v) ∷ [])) (ne_eqb x n (λ e. absurd (let m : n < x = IsBelowAll-has n x ns r.0 (Has-at ns i x at) in omega arith)))
     ∙ ap (λ us. s ∷ us) (told_at more ns ss x v i d r.1 at (omega arith))
 
-cases_has : (ns : List ℕ) (x : ℕ) → Has ns x ⊎ (Has ns x → ⊥)
+pub cases_has : (ns : List ℕ) (x : ℕ) → Has ns x ⊎ (Has ns x → ⊥)
 cases_has [] x = inr (λ h. h)
 cases_has (n ∷ ns) x = elim (cases_eq n x) [
   | inl e ↦ inl (inl e)

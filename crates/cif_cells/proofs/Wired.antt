@@ -42,7 +42,7 @@ pub numbers_rise : (raw : Raw) → IsRising (net_numbers raw)
 unfolding net_numbers
 numbers_rise raw = IsRising-rising (numbers_held raw)
 
-nets_of_rows : (cell : RawCell) (rows : List PortRow) (p : ℕ) (r : PortRow) (x : ℕ) → At rows p r → Has (nets_in (port_bits cell r)) x → Has (nets_in (flat_map (port_bits cell) rows)) x
+pub nets_of_rows : (cell : RawCell) (rows : List PortRow) (p : ℕ) (r : PortRow) (x : ℕ) → At rows p r → Has (nets_in (port_bits cell r)) x → Has (nets_in (flat_map (port_bits cell) rows)) x
 nets_of_rows cell [] p r x at h = absurd at
 nets_of_rows cell (s ∷ rows) zero r x at h =
     let here : Has (nets_in (port_bits cell s)) x = rw at h in
@@ -200,7 +200,7 @@ is_driver raw b x d s n place apart h =
     ∙ ap (λ (o : Option Driver). unwrap_or o Clock) one
 
 -- a net bit is the place of its number
-place_is : (raw : Raw) (b x : ℕ) → At (net_numbers raw) b x → place_of (net_numbers raw) x ≡ b
+pub place_is : (raw : Raw) (b x : ℕ) → At (net_numbers raw) b x → place_of (net_numbers raw) x ≡ b
 place_is raw b x at = place_at (net_numbers raw) b x (numbers_rise raw) at
 
 some_place : (raw : Raw) (b x : ℕ) → At (net_numbers raw) b x → Some (place_of (net_numbers raw) x) ≡ Some b

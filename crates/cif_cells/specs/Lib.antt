@@ -8,3 +8,4 @@ pub mod Kept
 pub mod PortChecks
 pub mod Clocks
 pub mod Inits
+pub mod Nets

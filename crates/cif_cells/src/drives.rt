@@ -4,11 +4,11 @@ ghost use Rattle.std.specs.List.{All, flat_map};
 ghost use Rattle.std.specs.List.Sorted.{IsStrictlyIncreasing};
 ghost use Rattle.cif_defs.specs.Table.{kind_of as kind_of_text, outputs_of};
 ghost use Rattle.cif_defs.specs.Kinds.{role_of};
-ghost use Rattle.cif_defs.specs.RawModule.{port_bits as bits_of_port, output_bits};
+ghost use Rattle.cif_defs.specs.RawModule.{port_bits as bits_of_port, output_bits, net_numbers};
 ghost use Rattle.cif_defs.specs.Accepted.{is_input as is_input_port, driven, driven_from, driven_by_inputs, driven_by_outputs, driven_by_role, driven_by_kind, driven_by_cells};
-ghost use Rattle.cif_cells.specs.Checks.{cell_fault};
+ghost use Rattle.cif_cells.specs.Checks.{cell_fault, ports_fault, cells_fault};
 ghost use Rattle.cif_cells.specs.Told.{told, told_all};
-ghost use Rattle.cif_cells.specs.Drives.{driven_more, driver_at, HasWidth};
+ghost use Rattle.cif_cells.specs.Drives.{driven_more, driven_by, driver_at, HasWidth};
 ghost use Rattle.cif_cells.specs.Kept.{is_kept};
 
 use crate::numbers::place_of;
@@ -195,4 +195,19 @@ fn record_inputs(numbers: &[u64], drives: &mut [DrivenBy], ports: &[RawPort])
             inputs += 1;
         }
     }
+}
+
+/// What drives each of the net numbers of a module whose ports and cells have passed their checks.
+pub fn all_drives(alloc: Global, numbers: &[u64], raw: &Raw) -> Result<Vec<DrivenBy>, AllocError>
+    requires numbers { numbers.now ≡ net_numbers raw.now }
+    requires ports { ports_fault raw.now ≡ None }
+    requires cells { cells_fault raw.now ≡ None }
+    requires few_cells { length raw.now.cells ≤ 400000 }
+    requires few_bits { length numbers.now ≤ 4194304 }
+    ensures { IfOk result (λ v. v.items ≡ map (driven_by raw.now) numbers.now) }
+{
+    let mut drives = vec![in alloc; DrivenBy::Nothing; numbers.len()]?;
+    record_inputs(numbers, &mut drives, raw.ports.items());
+    record_cells(numbers, &mut drives, raw.cells.items());
+    Ok(drives)
 }

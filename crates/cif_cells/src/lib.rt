@@ -9,6 +9,7 @@ mod drives;
 mod fault;
 mod inits;
 mod netlist;
+mod nets;
 mod numbers;
 mod parameters;
 mod ports;
