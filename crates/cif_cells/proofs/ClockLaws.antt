@@ -72,13 +72,13 @@ pub use_found : (f : RawCell → List ClockUse) (cells : List RawCell) (i : ℕ)
 use_found f cells i cell d None l c e s = absurd (cc)
 use_found f cells i cell d (Some u) l c e s =
     sym (at_drop_more (λ (cs : List RawCell). first_of (flat_map f cs)) cells i d l
-        ∙ first_of-append (f (get_or cells i d)) (flat_map f (drop (i + 1) cells)) u (ap (λ (x : RawCell). first_of (f x)) (sym c) ∙ sym e))
+    ∙ first_of-append (f (get_or cells i d)) (flat_map f (drop (i + 1) cells)) u (ap (λ (x : RawCell). first_of (f x)) (sym c) ∙ sym e))
 
 pub use_missed : (f : RawCell → List ClockUse) (cells : List RawCell) (i : ℕ) (cell d : RawCell) (o : Option ClockUse) → i < length cells → cell ≡ get_or cells i d → o ≡ first_of (f cell) → is_some o ≡ false
     → first_of (flat_map f (drop (i + 1) cells)) ≡ first_of (flat_map f (drop i cells))
 use_missed f cells i cell d None l c e s =
     sym (at_drop_more (λ (cs : List RawCell). first_of (flat_map f cs)) cells i d l
-        ∙ first_of-after (f (get_or cells i d)) (flat_map f (drop (i + 1) cells)) (ap (λ (x : RawCell). first_of (f x)) (sym c) ∙ sym e))
+    ∙ first_of-after (f (get_or cells i d)) (flat_map f (drop (i + 1) cells)) (ap (λ (x : RawCell). first_of (f x)) (sym c) ∙ sym e))
 use_missed f cells i cell d (Some u) l c e s = absurd (cc)
 
 -- ---- uses of several cells
@@ -101,7 +101,7 @@ pub fault_past_item : {A B : Type 0} (check : B → Option BuildFault) (f : A �
     → first_fault check (flat_map f (drop (i + 1) xs)) ≡ first_fault check (flat_map f (drop i xs))
 fault_past_item check f xs i x d l e h =
     sym (at_drop_more (λ ys. first_fault check (flat_map f ys)) xs i d l ∙ first_fault-append check (f (get_or xs i d)) (flat_map f (drop (i + 1) xs))
-        ∙ ap (λ r. r else_by first_fault check (flat_map f (drop (i + 1) xs))) (ap (λ y. first_fault check (f y)) (sym e) ∙ h))
+    ∙ ap (λ r. r else_by first_fault check (flat_map f (drop (i + 1) xs))) (ap (λ y. first_fault check (f y)) (sym e) ∙ h))
 
 -- what is the first fault of one check is that of another
 pub first_holds : (one other : Option BuildFault) → ((fault : BuildFault) → one ≡ Some fault → other ≡ Some fault) → (fault : BuildFault) → IsFirst one fault → IsFirst other fault
@@ -127,13 +127,13 @@ no_uses raw (u ∷ us) e = absurd (cc)
 
 pub net_data : (raw : Raw) (bit : RawBit) (x : ℕ) (cells : List RawCell) (ports : List RawPort) → bit ≡ Net x → cells ≡ raw.cells → ports ≡ raw.ports
     → data_fault raw bit ≡ (first_fault (λ (c : RawCell). fault_if (reads_number x (operand_bits c)) (ClockAsData c.name)) cells
-        else_by first_fault (λ (p : RawPort). fault_if (reads_number x p.bits) (ClockAsData p.name)) (filter is_output ports))
+    else_by first_fault (λ (p : RawPort). fault_if (reads_number x p.bits) (ClockAsData p.name)) (filter is_output ports))
 net_data raw bit x cells ports b c p =
     ap (data_fault raw) b
     ∙ ap (λ (cs : List RawCell). first_fault (λ (c : RawCell). fault_if (reads_number x (operand_bits c)) (ClockAsData c.name)) cs
-        else_by first_fault (λ (p : RawPort). fault_if (reads_number x p.bits) (ClockAsData p.name)) (filter is_output raw.ports)) (sym c)
+    else_by first_fault (λ (p : RawPort). fault_if (reads_number x p.bits) (ClockAsData p.name)) (filter is_output raw.ports)) (sym c)
     ∙ ap (λ (ps : List RawPort). first_fault (λ (c : RawCell). fault_if (reads_number x (operand_bits c)) (ClockAsData c.name)) cells
-        else_by first_fault (λ (p : RawPort). fault_if (reads_number x p.bits) (ClockAsData p.name)) (filter is_output ps)) (sym p)
+    else_by first_fault (λ (p : RawPort). fault_if (reads_number x p.bits) (ClockAsData p.name)) (filter is_output ps)) (sym p)
 
 -- ---- numbers that are read
 
@@ -151,5 +151,5 @@ pub rows_past : (x : ℕ) (cell : RawCell) (rows : List PortRow) (i : ℕ) (d : 
     → reads_number x (flat_map (port_bits cell) (drop (i + 1) rows)) ≡ reads_number x (flat_map (port_bits cell) (drop i rows))
 rows_past x cell rows i d bits r l b e t =
     sym (at_drop_more (λ (rs : List PortRow). reads_number x (flat_map (port_bits cell) rs)) rows i d l
-        ∙ reads-append x (port_bits cell (get_or rows i d)) (flat_map (port_bits cell) (drop (i + 1) rows))
-        ∙ ap (λ q. q || reads_number x (flat_map (port_bits cell) (drop (i + 1) rows))) (ap (reads_number x) (sym b) ∙ sym e ∙ t))
+    ∙ reads-append x (port_bits cell (get_or rows i d)) (flat_map (port_bits cell) (drop (i + 1) rows))
+    ∙ ap (λ q. q || reads_number x (flat_map (port_bits cell) (drop (i + 1) rows))) (ap (reads_number x) (sym b) ∙ sym e ∙ t))

@@ -15,8 +15,8 @@ use crate::raw_access::{
 };
 use crate::table;
 use cif_defs::{
-    Direction, Kind, Listed, Name, NetBit, Param, ParamValue, PortRow, RawBit, RawCell, RawPort, Src,
-    Wire,
+    Direction, Kind, Listed, Name, NetBit, Param, ParamValue, PortRow, RawBit, RawCell, RawPort,
+    Src, Wire,
 };
 use std::alloc::{AllocError, Global};
 
@@ -63,9 +63,7 @@ fn sources(alloc: Global, numbers: &[u64], bits: &[RawBit]) -> Result<Vec<Src>, 
     requires few { length numbers.now < 2 ^ 32 }
     ensures { IfOk result (λ v. v.items ≡ map (source_of numbers.now) bits.now) }
 {
-    bits.iter()
-        .map(|bit| source(numbers, *bit))
-        .collect(alloc)
+    bits.iter().map(|bit| source(numbers, *bit)).collect(alloc)
 }
 
 /// What some output bits drive.
@@ -78,9 +76,7 @@ fn targets(
     requires few { length numbers.now < 2 ^ 32 }
     ensures { IfOk result (λ v. v.items ≡ map (target_of numbers.now) bits.now) }
 {
-    bits.iter()
-        .map(|bit| target(numbers, *bit))
-        .collect(alloc)
+    bits.iter().map(|bit| target(numbers, *bit)).collect(alloc)
 }
 
 /// What the operands of a cell read, where `rows` are their ports.
@@ -135,11 +131,7 @@ fn plain_number(cell: &RawCell, param: Param) -> Option<u64>
 }
 
 /// The numbers that a cell gives for those parameters that are neither tables nor masks.
-fn numbers_given(
-    alloc: Global,
-    cell: &RawCell,
-    params: &[Param],
-) -> Result<Vec<Given>, AllocError>
+fn numbers_given(alloc: Global, cell: &RawCell, params: &[Param]) -> Result<Vec<Given>, AllocError>
     ensures { IfOk result (λ v. numbers_seen v.items ≡ numbers_of cell.now params.now) }
 {
     let mut numbers = Vec::new(alloc);
@@ -176,11 +168,7 @@ fn param_digits(alloc: Global, cell: &RawCell, param: Param) -> Result<Vec<bool>
 }
 
 /// The digits that a cell gives for those parameters that are tables.
-fn tables_given(
-    alloc: Global,
-    cell: &RawCell,
-    params: &[Param],
-) -> Result<Vec<Digits>, AllocError>
+fn tables_given(alloc: Global, cell: &RawCell, params: &[Param]) -> Result<Vec<Digits>, AllocError>
     ensures { IfOk result (λ v. digits_seen v.items ≡ tables_of cell.now params.now) }
 {
     let mut tables = Vec::new(alloc);
@@ -275,11 +263,7 @@ pub fn is_output(port: &RawPort) -> bool
 }
 
 /// The wires that the input ports of a module stand for, where `numbers` are its net numbers.
-pub fn inputs_of(
-    alloc: Global,
-    numbers: &[u64],
-    ports: &[RawPort],
-) -> Result<Vec<Wire>, AllocError>
+pub fn inputs_of(alloc: Global, numbers: &[u64], ports: &[RawPort]) -> Result<Vec<Wire>, AllocError>
     requires rising { IsStrictlyIncreasing numbers.now }
     requires few { length numbers.now < 2 ^ 32 }
     ensures { IfOk result (λ v. v.items ≡ map (wire_of_port numbers.now) (filter is_input_port ports.now)) }

@@ -102,10 +102,8 @@ fn polarity(cell: &RawCell, role: Role, index: usize) -> u64
 {
     match role {
         Role::MemoryBlock => u64::from(digit_given(cell, Param::WrClkPolarity, index as u64)),
-        Role::PlainRegister
-        | Role::ResetRegister
-        | Role::Combinational
-        | Role::CarriedOver => number_or_0(cell, Param::ClkPolarity),
+        Role::PlainRegister | Role::ResetRegister | Role::Combinational | Role::CarriedOver =>
+            number_or_0(cell, Param::ClkPolarity),
     }
 }
 

@@ -134,13 +134,7 @@ fn record(numbers: &[u64], inits: &mut [InitBit], number: u64, digit: bool)
 }
 
 /// Records what an `init` gives for a bit at place `index`.
-fn record_bit(
-    numbers: &[u64],
-    inits: &mut [InitBit],
-    value: &ParamValue,
-    index: usize,
-    bit: RawBit,
-)
+fn record_bit(numbers: &[u64], inits: &mut [InitBit], value: &ParamValue, index: usize, bit: RawBit)
     requires rising { IsStrictlyIncreasing numbers.now }
     requires same { length inits.old ≡ length numbers.now }
     ensures { inits.new ≡ told_all init_more numbers.now inits.old (told_bit value.now index bit) }
@@ -265,11 +259,7 @@ fn register_marks(
 }
 
 /// Checks that no marked number has both digits; the least that has is refused.
-fn check_conflicts(
-    numbers: &[u64],
-    marks: &[bool],
-    inits: &[InitBit],
-) -> Result<(), BuildFault>
+fn check_conflicts(numbers: &[u64], marks: &[bool], inits: &[InitBit]) -> Result<(), BuildFault>
     requires marks { length marks.now ≡ length numbers.now }
     requires inits { length inits.now ≡ length numbers.now }
     ensures ok { IsOk result → conflict_fault numbers.now marks.now inits.now ≡ None }

@@ -18,8 +18,8 @@ returns-in_err-check_operands-in-Net-clause-err c =
     let then = first_fault (λ (port : RawPort). fault_if (reads_number x port.bits) (ClockAsData port.name)) (filter is_output raw.ports) in
     let other = data_fault raw c.args.clock in
     IfErr-weaker c.from_residual.result (λ e. IsFirst one e) (λ e. IsFirst other e)
-        (first_holds one other (λ fault h. net_data raw c.args.clock x c.items.result.now raw.ports c.in-Net.is c.items.ensures refl ∙ ap (λ r. r else_by then) h))
-        (search rules)
+    (first_holds one other (λ fault h. net_data raw c.args.clock x c.items.result.now raw.ports c.in-Net.is c.items.ensures refl ∙ ap (λ r. r else_by then) h))
+    (search rules)
 
 pub returns-in_ok-check_operands-in-Net-clause-ok : goal.returns-in_ok-check_operands-in-Net-clause-ok
 returns-in_ok-check_operands-in-Net-clause-ok c is_ok =
@@ -34,6 +34,6 @@ returns-in_ok-check_operands-in-Net-clause-err c =
     let one = first_fault (λ (port : RawPort). fault_if (reads_number x port.bits) (ClockAsData port.name)) (filter is_output c.items-in-Net.result.now) in
     let other = data_fault c.args.raw.now c.args.clock in
     IfErr-weaker c.check_outputs.result (λ e. IsFirst one e) (λ e. IsFirst other e)
-        (first_holds one other (λ fault h. net_data c.args.raw.now c.args.clock x c.items.result.now c.items-in-Net.result.now c.in-Net.is c.items.ensures c.items-in-Net.ensures
-            ∙ ap (λ r. r else_by one) (c.in_ok-check_operands-in-Net.ensures.ok refl) ∙ h))
-        c.check_outputs.ensures.err
+    (first_holds one other (λ fault h. net_data c.args.raw.now c.args.clock x c.items.result.now c.items-in-Net.result.now c.in-Net.is c.items.ensures c.items-in-Net.ensures
+    ∙ ap (λ r. r else_by one) (c.in_ok-check_operands-in-Net.ensures.ok refl) ∙ h))
+    c.check_outputs.ensures.err

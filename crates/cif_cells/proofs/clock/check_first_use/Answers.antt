@@ -15,8 +15,8 @@ returns-in_err-check_uses-clause-err c =
     let one = first_fault (clock_fault c.items-2.result.now first) (flat_map (λ (x : RawCell). clock_uses_by x (kind_of x.kind)) c.items-3.result.now) in
     let other = uses_fault raw (clock_uses raw) in
     IfErr-weaker c.from_residual-in_err-check_uses.result (λ e. IsFirst one e) (λ e. IsFirst other e)
-        (first_holds one other (λ fault h. all_uses raw first c.items-2.result.now c.items-3.result.now c.items-2.ensures c.items-3.ensures c.requires ∙ ap (λ r. r else_by data_fault raw first.bit) h))
-        (search rules)
+    (first_holds one other (λ fault h. all_uses raw first c.items-2.result.now c.items-3.result.now c.items-2.ensures c.items-3.ensures c.requires ∙ ap (λ r. r else_by data_fault raw first.bit) h))
+    (search rules)
 
 pub returns-clause-ok : goal.returns-clause-ok
 returns-clause-ok c is_ok =
@@ -32,6 +32,6 @@ returns-clause-err c =
     let one = data_fault raw first.bit in
     let other = uses_fault raw (clock_uses raw) in
     IfErr-weaker c.check_data.result (λ e. IsFirst one e) (λ e. IsFirst other e)
-        (first_holds one other (λ fault h. all_uses raw first c.items-2.result.now c.items-3.result.now c.items-2.ensures c.items-3.ensures c.requires
-            ∙ ap (λ r. r else_by data_fault raw first.bit) (c.in_ok-check_uses.ensures.ok refl) ∙ h))
-        c.check_data.ensures.err
+    (first_holds one other (λ fault h. all_uses raw first c.items-2.result.now c.items-3.result.now c.items-2.ensures c.items-3.ensures c.requires
+    ∙ ap (λ r. r else_by data_fault raw first.bit) (c.in_ok-check_uses.ensures.ok refl) ∙ h))
+    c.check_data.ensures.err

@@ -15,10 +15,10 @@ returns-in_err-check_uses_by-clause-err c =
     let one = first_fault check (uses c.cell-item.result) in
     let other = first_fault check (flat_map uses c.args.cells.now) in
     IfErr-weaker c.from_residual.result (λ e. IsFirst one e) (λ e. IsFirst other e)
-        (first_holds one other (λ fault h. sym c.loop-cell.invariant ∙ fault_in_item check uses c.args.cells.now c.loop-cell.cell-index c.cell-item.result _ fault c.loop-cell-test.true c.cell-item.is h))
-        (search rules)
+    (first_holds one other (λ fault h. sym c.loop-cell.invariant ∙ fault_in_item check uses c.args.cells.now c.loop-cell.cell-index c.cell-item.result _ fault c.loop-cell-test.true c.cell-item.is h))
+    (search rules)
 
 pub loop-cell-preserved : goal.loop-cell-preserved
 loop-cell-preserved c =
     fault_past_item (clock_fault c.args.ports.now (use_seen c.args.first)) (λ (x : RawCell). clock_uses_by x (kind_of x.kind)) c.args.cells.now c.loop-cell.cell-index c.cell-item.result _ c.loop-cell-test.true c.cell-item.is
-        (c.in_ok-check_uses_by.ensures.ok refl) ∙ c.loop-cell.invariant
+    (c.in_ok-check_uses_by.ensures.ok refl) ∙ c.loop-cell.invariant
