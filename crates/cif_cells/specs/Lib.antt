@@ -7,3 +7,4 @@ pub mod Drives
 pub mod Kept
 pub mod PortChecks
 pub mod Nets
+pub mod Clocks

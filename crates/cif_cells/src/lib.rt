@@ -3,6 +3,7 @@
 
 mod cell;
 mod cells;
+mod clock;
 mod drives;
 mod fault;
 mod netlist;
