@@ -1,5 +1,5 @@
 -- The first fault of one check after another.
-use Rattle.std.specs.Prelude.{ℕ, ◌+◌, ◌<◌, ◌≡◌, List, [], ◌∷◌, ◌++◌, length, get_or, drop, Option, Some, None, refl}
+use Rattle.std.specs.Prelude.{ℕ, ◌+◌, ◌<◌, ◌≡◌, List, [], ◌∷◌, ◌++◌, length, get_or, drop, Option, Some, None, Result, Ok, Err, IfErr, refl}
 use Rattle.std.specs.List.{flat_map}
 use Rattle.std.proofs.Common.{sym, ap, subst, ◌∙◌}
 use Rattle.std.proofs.lemmas.List.{at_drop_more}
@@ -45,3 +45,15 @@ pub parts_first : {A B : Type 0} (check : B → Option BuildFault) (f : A → Li
     → IsFirst (first_fault check (f x)) fault → IsFirst all fault
 parts_first check f xs i x d all fault l e r h =
     IsFirst-same (first_fault check (f x) else_by first_fault check (flat_map f (drop (i + 1) xs))) all fault (sym (here check f xs i x d l e) ∙ r) (IsFirst-left (first_fault check (f x)) (first_fault check (flat_map f (drop (i + 1) xs))) fault h)
+
+-- ---- two checks that make one
+
+pub joined_ok : (all a b : Option BuildFault) → all ≡ a else_by b → a ≡ None → b ≡ None → all ≡ None
+joined_ok all a b e p q = e ∙ both_pass a b p q
+
+pub joined_first : (all a b : Option BuildFault) (fault : BuildFault) → all ≡ a else_by b → IsFirst a fault → IsFirst all fault
+joined_first all a b fault e h = IsFirst-same (a else_by b) all fault (sym e) (IsFirst-left a b fault h)
+
+pub joined_next : {T : Type 0} (all a b : Option BuildFault) (r : Result T BuildFault) → all ≡ a else_by b → a ≡ None → IfErr r (λ e. IsFirst b e) → IfErr r (λ e. IsFirst all e)
+joined_next all a b (Ok x) e n h = tt
+joined_next all a b (Err fault) e n h = IsFirst-same (a else_by b) all fault (sym e) (IsFirst-right a b fault n h)

@@ -8,3 +8,5 @@ pub mod Kept
 pub mod PortChecks
 pub mod Nets
 pub mod Clocks
+pub mod Reads
+pub mod CellReads
