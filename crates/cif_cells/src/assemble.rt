@@ -8,6 +8,7 @@ ghost use Rattle.cif_defs.specs.Netlist.{no_cell};
 ghost use Rattle.cif_cells.specs.CellView.{numbers_seen, digits_seen};
 
 use crate::cell::{Cell, Digits, Given, Sources, Targets};
+use crate::clock::is_output;
 use crate::drives::is_input;
 use crate::numbers::place_of;
 use crate::raw_access::{
@@ -15,7 +16,7 @@ use crate::raw_access::{
 };
 use crate::table;
 use cif_defs::{
-    Direction, Kind, Listed, Name, NetBit, Param, ParamValue, PortRow, RawBit, RawCell, RawPort,
+    Kind, Listed, Name, NetBit, Param, ParamValue, PortRow, RawBit, RawCell, RawPort,
     Src, Wire,
 };
 use std::alloc::{AllocError, Global};
@@ -253,13 +254,6 @@ pub fn wire_of(alloc: Global, numbers: &[u64], port: &RawPort) -> Result<Wire, A
     let name = name_copy(alloc, port.name.items())?;
     let bits = sources(alloc, numbers, port.bits.items())?;
     Ok(Wire::of(name, bits))
-}
-
-/// Whether a port is an output.
-pub fn is_output(port: &RawPort) -> bool
-    ensures { result ≡ is_output_port port.now }
-{
-    matches!(port.direction, Direction::Output)
 }
 
 /// The wires that the input ports of a module stand for, where `numbers` are its net numbers.

@@ -14,6 +14,7 @@ mod numbers;
 mod parameters;
 mod ports;
 mod raw_access;
+mod reads;
 pub mod table;
 
 pub use cell::{Cell, Digits, Given, Sources, Targets};
