@@ -1,5 +1,5 @@
 -- What `init` attributes give for net numbers, told digit by digit, and the words with which cells start.
-use Rattle.std.specs.Prelude.{ℕ, zero, suc, ◌+◌, ◌*◌, ◌<◌, ◌≤◌, ◌≡◌, ◌⊎◌, ◌==◌, Bool, true, false, not, ◌&&◌, ◌||◌, List, [], ◌∷◌, ◌++◌, length, map, filter, fold, eqb, get_or, codes, drop, take, position, option_map, option_to_list, unwrap_or, Option, Some, None, replicate, refl, if◌then◌else◌}
+use Rattle.std.specs.Prelude.{ℕ, zero, suc, ◌+◌, ◌*◌, ◌<◌, ◌≤◌, ◌≡◌, ◌⊎◌, ◌==◌, Bool, true, false, not, ◌&&◌, ◌||◌, List, [], ◌∷◌, ◌++◌, length, map, filter, fold, get_or, codes, drop, take, position, option_map, option_to_list, unwrap_or, Option, Some, None, replicate, refl, if◌then◌else◌}
 use Rattle.std.specs.List.{Contains, cons_option, filter_map, flat_map, list_any}
 use Rattle.std.proofs.Common.{arith, sym, ap, subst, ◌∙◌, cond, inl, inr, add-one}
 use Rattle.std.proofs.lemmas.Bool.{cond-true, cond-false}

@@ -1,6 +1,5 @@
 -- What `init` attributes give for net numbers, digit by digit.
 use Rattle.std.specs.Prelude.{ℕ, ◌+◌, ◌==◌, Bool, true, false, not, ◌&&◌, List, [], ◌∷◌, ◌++◌, map, fold, get_or, codes, position, Option, Some, None, option_to_list, if◌then◌else◌}
-use Rattle.std.specs.List.{flat_map}
 use Rattle.cif_defs.specs.RawModule.{value_named}
 use Rattle.cif_defs.specs.Accepted.{init_at, init_all}
 use Rattle.cif_defs.specs.declared.raw_module.ParamValue.{ParamValue}

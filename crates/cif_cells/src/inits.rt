@@ -3,9 +3,8 @@ ghost use Rattle.std.specs.Prelude.{◌≡◌, ◌&&◌, ◌∷◌, [], false, t
 ghost use Rattle.std.specs.List.{Contains, flat_map};
 ghost use Rattle.std.specs.List.Sorted.{IsStrictlyIncreasing};
 ghost use Rattle.cif_defs.specs.Words.{bit as bit_of, word};
-ghost use Rattle.cif_defs.specs.Kinds.{role_of};
 ghost use Rattle.cif_defs.specs.Table.{kind_of as kind_of_text};
-ghost use Rattle.cif_defs.specs.RawModule.{value_named, nets_in, net_numbers, output_bits, digits_given, digits_read};
+ghost use Rattle.cif_defs.specs.RawModule.{value_named, nets_in, net_numbers, digits_given, digits_read};
 ghost use Rattle.cif_defs.specs.Accepted.{digit_at, init_at, initial_of, no_bit};
 ghost use Rattle.cif_defs.specs.declared.raw_module.ParamValue.TheVariants.{Number};
 ghost use Rattle.cif_cells.specs.Checks.{IsFirst, has_number, register_numbers_by, inits_fault};
@@ -342,7 +341,7 @@ fn register_word(
 }
 
 /// Digit `index` of a value that may be missing, lowest first, where x, z and missing digits are 0.
-fn digit_at_most(value: Option<&ParamValue>, index: u64) -> bool
+fn optional_digit(value: Option<&ParamValue>, index: u64) -> bool
     ensures { result ≡ bit_of (unwrap_or (option_map digits_read (option_map (λ v. v.now) value.entry)) []) index }
 {
     match value {
@@ -358,7 +357,7 @@ fn memory_word(alloc: Global, cell: &RawCell, bits: u64) -> Result<Vec<bool>, Al
     let value = value_given(cell, Param::Init);
     let mut started = Vec::new(alloc);
     for index in 0..bits {
-        started.push(digit_at_most(value, index))?;
+        started.push(optional_digit(value, index))?;
     }
     Ok(started)
 }

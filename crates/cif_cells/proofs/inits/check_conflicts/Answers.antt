@@ -1,6 +1,4 @@
-use Rattle.std.proofs.Common.{false, sym, ap, ◌∙◌, get_or, Bool}
-use Rattle.std.specs.Prelude.{◌&&◌}
-use Rattle.cif_cells.specs.Inits.{gives}
+use Rattle.std.proofs.Common.{false, sym, ◌∙◌}
 use Rattle.cif_cells.specs.declared.inits.InitBit.TheVariants.{Nothing}
 use Rattle.cif_cells.proofs.InitLaws.{conflict_step, not_conflict, not_marked}
 use Rattle.cif_cells.proofs.inits.check_conflicts.Goals as goal

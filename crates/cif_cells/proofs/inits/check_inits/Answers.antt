@@ -1,4 +1,4 @@
-use Rattle.std.proofs.Common.{◌≡◌, ℕ, List, Option, None, IsOk, IfErr, map, sym, subst, ap, ◌∙◌}
+use Rattle.std.proofs.Common.{ℕ, List, Option, IfErr, map, sym, subst, ap, ◌∙◌}
 use Rattle.std.specs.List.{flat_map}
 use Rattle.cif_defs.specs.Table.{kind_of}
 use Rattle.cif_defs.specs.declared.raw_module.RawCell.{RawCell}

@@ -9,5 +9,5 @@ use Rattle.cif_cells.proofs.inits.memory_word.Goals as goal
 
 pub loop-index-preserved : goal.loop-index-preserved
 loop-index-preserved c =
-    word_push (λ i. bit (digits_given c.args.cell.now Init) i) c.loop-index.index c.loop-index.started.items _ c.digit_at_most.result c.loop-index.invariant c.in_ok-push.ensures.items
-    (c.digit_at_most.ensures ∙ ap (λ (o : Option ParamValue). bit (unwrap_or (option_map digits_read o) []) c.loop-index.index) c.value_given-value.ensures)
+    word_push (λ i. bit (digits_given c.args.cell.now Init) i) c.loop-index.index c.loop-index.started.items _ c.optional_digit.result c.loop-index.invariant c.in_ok-push.ensures.items
+    (c.optional_digit.ensures ∙ ap (λ (o : Option ParamValue). bit (unwrap_or (option_map digits_read o) []) c.loop-index.index) c.value_given-value.ensures)

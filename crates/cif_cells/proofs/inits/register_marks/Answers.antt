@@ -1,4 +1,3 @@
-use Rattle.std.proofs.Common.{ℕ, List}
 use Rattle.std.specs.List.{flat_map}
 use Rattle.cif_defs.specs.Table.{kind_of}
 use Rattle.cif_defs.specs.declared.raw_module.RawCell.{RawCell}
