@@ -76,7 +76,7 @@ memory_by_role cell PlainRegister e h = absurd (cc)
 memory_by_role cell ResetRegister e h = absurd (cc)
 memory_by_role cell CarriedOver e h = absurd (cc)
 
-known_memory : (cell : RawCell) (k : Kind) → role_of k ≡ MemoryBlock → known_cell_fault cell k ≡ None → has_bad_form cell ≡ false
+pub known_memory : (cell : RawCell) (k : Kind) → role_of k ≡ MemoryBlock → known_cell_fault cell k ≡ None → has_bad_form cell ≡ false
 known_memory cell k e h =
     let forms = parameters_fault cell k else_by memory_form cell (role_of k) in
     let zeros = forms else_by first_fault (zero_width cell k) (ports_of k) in
@@ -94,7 +94,7 @@ built_memory : (cell : RawCell) (k : Kind) (b : Bool) → role_of k ≡ MemoryBl
 built_memory cell k true e h = known_memory cell k e h
 built_memory cell k false e h = absurd (cc)
 
-has_width : (cell : RawCell) → has_bad_form cell ≡ false → number_or_0 cell Width ≢ 0
+pub has_width : (cell : RawCell) → has_bad_form cell ≡ false → number_or_0 cell Width ≢ 0
 has_width cell h =
     let w = number_or_0 cell Width == 0 in
     let s = w || number_or_0 cell Size == 0 in

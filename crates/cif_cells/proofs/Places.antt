@@ -123,6 +123,11 @@ Has-filter p [] x h e = absurd h
 Has-filter p (y ∷ ys) x (inl h) e = (let t : p y ≡ true = ap p h ∙ e in rw t (inl h))
 Has-filter p (y ∷ ys) x (inr h) e = cond_both (p y) (y ∷ filter p ys) (filter p ys) (λ zs. Has zs x) (λ _. inr (Has-filter p ys x h e)) (λ _. Has-filter p ys x h e)
 
+pub Has-unfilter : {A : Type 0} (p : A → Bool) (xs : List A) (x : A) → Has (filter p xs) x → Has xs x
+Has-unfilter p [] x h = h
+Has-unfilter p (y ∷ ys) x h = cond_both (p y) (y ∷ filter p ys) (filter p ys) (λ zs. Has zs x → Has (y ∷ ys) x)
+    (λ _ k. elim k [ inl e ↦ inl e | inr a ↦ inr (Has-unfilter p ys x a) ]) (λ _ k. inr (Has-unfilter p ys x k)) h
+
 pub Has-any : {A : Type 0} (p : A → Bool) (xs : List A) → list_any p xs ≡ true → (x : A) × Has xs x × (p x ≡ true)
 Has-any p [] h = absurd (cc)
 Has-any p (y ∷ ys) h = elim (or_cases (p y) (list_any p ys) h) [

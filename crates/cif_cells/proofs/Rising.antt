@@ -104,10 +104,10 @@ same_rising (x ∷ xs) (y ∷ ys) h k f g =
 
 -- ---- places in a rising list
 
-abbrev is_number : ℕ → ℕ → Bool
+abbrev pub is_number : ℕ → ℕ → Bool
 is_number x y = y == x
 
-position_at : (ns : List ℕ) (i x : ℕ) → IsRising ns → At ns i x → position_or_len (is_number x) ns ≡ i
+pub position_at : (ns : List ℕ) (i x : ℕ) → IsRising ns → At ns i x → position_or_len (is_number x) ns ≡ i
 position_at [] i x h at = absurd at
 position_at (n ∷ ns) zero x h at = ap (λ b. cond (not b) (1 + prefix_len (λ y. not (y == x)) ns) 0) (eq-eqb n x at)
 position_at (n ∷ ns) (suc i) x h at =

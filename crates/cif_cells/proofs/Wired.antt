@@ -29,9 +29,11 @@ use Rattle.cif_defs.specs.declared.raw_module.RawPort.{RawPort}
 use Rattle.cif_defs.specs.declared.raw_module.RawCell.{RawCell}
 use Rattle.cif_defs.specs.declared.raw_module.Raw.{Raw}
 use Rattle.cif_cells.specs.Checks.{IsAccepted}
+use Rattle.cif_cells.specs.Kept.{is_kept}
 use Rattle.cif_cells.proofs.Places.{At, Has, At-map, At-from_map, At-moved, At-subst, Has-flat_map, Has-left, Has-right, Has-nets, nets_in-append}
 use Rattle.cif_cells.proofs.Rising.{IsRising, IsRising-rising, Has-rising, place_at, At-place}
 use Rattle.cif_cells.proofs.Driven.{CellIs, OutputBit, OutputOf, PortBit, ReadOf, RegisterOf, Has-driver, driver_once, driven_by_output, driven_by_read, driven_by_register, input_driven, output_driven, read_driven, register_driven, word_width}
+use Rattle.cif_cells.proofs.Kept.{one_output, single_row}
 use Rattle.cif_cells.proofs.Passed.{Passed, passed, clock_is_input, driven_once, word_width_positive}
 
 -- ---- net numbers
@@ -40,7 +42,7 @@ pub numbers_rise : (raw : Raw) → IsRising (net_numbers raw)
 unfolding net_numbers
 numbers_rise raw = IsRising-rising (numbers_held raw)
 
-nets_of_rows : (cell : RawCell) (rows : List PortRow) (p : ℕ) (r : PortRow) (x : ℕ) → At rows p r → Has (nets_in (port_bits cell r)) x → Has (nets_in (flat_map (port_bits cell) rows)) x
+pub nets_of_rows : (cell : RawCell) (rows : List PortRow) (p : ℕ) (r : PortRow) (x : ℕ) → At rows p r → Has (nets_in (port_bits cell r)) x → Has (nets_in (flat_map (port_bits cell) rows)) x
 nets_of_rows cell [] p r x at h = absurd at
 nets_of_rows cell (s ∷ rows) zero r x at h =
     let here : Has (nets_in (port_bits cell s)) x = rw at h in
@@ -123,38 +125,16 @@ output_is raw c p i b h = elim (at_or_past raw.cells c) [
 
 -- ---- registers and memories have one output
 
-abbrev is_kept : Role → Bool
-is_kept PlainRegister = true
-is_kept ResetRegister = true
-is_kept MemoryBlock = true
-is_kept Combinational = false
-is_kept CarriedOver = false
-
-single_row : (k : Kind) → is_kept (role_of k) ≡ true → (r : PortRow) × (outputs_of k ≡ r ∷ [])
-unfolding outputs_of
-single_row Dff e = (row Q (Of Width), refl)
-single_row Dffe e = (row Q (Of Width), refl)
-single_row Sdff e = (row Q (Of Width), refl)
-single_row Sdffe e = (row Q (Of Width), refl)
-single_row Sdffce e = (row Q (Of Width), refl)
-single_row Adff e = (row Q (Of Width), refl)
-single_row Adffe e = (row Q (Of Width), refl)
-single_row Mem e = (row RdData (Product RdPorts Width), refl)
-single_row _ e = absurd (cc)
-
-one_output : (raw : Raw) (c : ℕ) (cell : RawCell) (k : Kind) (r : PortRow) → CellIs raw c cell k → outputs_of k ≡ r ∷ [] → output_bits cell ≡ port_bits cell r
-one_output raw c cell k r is o = ap (bits_by outputs_of cell) is.is_kind ∙ ap (flat_map (port_bits cell)) o ∙ append-nil (port_bits cell r)
-
 kept_bit : (raw : Raw) (c i x : ℕ) (cell : RawCell) (k : Kind) → CellIs raw c cell k → is_kept (role_of k) ≡ true → At (output_bits cell) i (Net x) → OutputBit cell k 0 i x
 kept_bit raw c i x cell k is e h =
     let s = single_row k e in
-    record { row = s.0; at_row = At-subst (s.0 ∷ []) (outputs_of k) 0 s.0 (sym s.1) refl; at_bit = At-subst (output_bits cell) (port_bits cell s.0) i (Net x) (one_output raw c cell k s.0 is s.1) h }
+    record { row = s.0; at_row = At-subst (s.0 ∷ []) (outputs_of k) 0 s.0 (sym s.1) refl; at_bit = At-subst (output_bits cell) (port_bits cell s.0) i (Net x) (one_output cell k s.0 is.is_kind s.1) h }
 
 bit_kept : (raw : Raw) (c i x : ℕ) (cell : RawCell) (k : Kind) → CellIs raw c cell k → is_kept (role_of k) ≡ true → OutputBit cell k 0 i x → At (output_bits cell) i (Net x)
 bit_kept raw c i x cell k is e b =
     let s = single_row k e in
     let same : s.0 ≡ b.row = At-subst (outputs_of k) (s.0 ∷ []) 0 b.row s.1 b.at_row in
-    At-subst (port_bits cell b.row) (output_bits cell) i (Net x) (ap (port_bits cell) (sym same) ∙ sym (one_output raw c cell k s.0 is s.1)) b.at_bit
+    At-subst (port_bits cell b.row) (output_bits cell) i (Net x) (ap (port_bits cell) (sym same) ∙ sym (one_output cell k s.0 is.is_kind s.1)) b.at_bit
 
 register_kept : (k : Kind) → (role_of k ≡ PlainRegister) ⊎ (role_of k ≡ ResetRegister) → is_kept (role_of k) ≡ true
 register_kept k (inl e) = ap is_kept e
@@ -220,7 +200,7 @@ is_driver raw b x d s n place apart h =
     ∙ ap (λ (o : Option Driver). unwrap_or o Clock) one
 
 -- a net bit is the place of its number
-place_is : (raw : Raw) (b x : ℕ) → At (net_numbers raw) b x → place_of (net_numbers raw) x ≡ b
+pub place_is : (raw : Raw) (b x : ℕ) → At (net_numbers raw) b x → place_of (net_numbers raw) x ≡ b
 place_is raw b x at = place_at (net_numbers raw) b x (numbers_rise raw) at
 
 some_place : (raw : Raw) (b x : ℕ) → At (net_numbers raw) b x → Some (place_of (net_numbers raw) x) ≡ Some b

@@ -2,4 +2,12 @@ pub mod CellView
 pub mod Checks
 pub mod InputNumbers
 pub mod NetlistView
+pub mod Told
+pub mod Drives
+pub mod Kept
 pub mod PortChecks
+pub mod Inits
+pub mod Nets
+pub mod Clocks
+pub mod Reads
+pub mod CellReads

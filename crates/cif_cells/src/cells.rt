@@ -34,7 +34,7 @@ pub enum PortCheck {
 }
 
 /// The names of a cell and of one of its ports.
-fn port_names(alloc: Global, cell: &RawCell, row: &PortRow) -> Result<Spot, AllocError>
+pub fn port_names(alloc: Global, cell: &RawCell, row: &PortRow) -> Result<Spot, AllocError>
     ensures { IfOk result (λ spot. spot ≡ spot_of cell.now row.now) }
 {
     let cell = name_copy(alloc, cell.name.items())?;

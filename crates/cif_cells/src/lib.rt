@@ -1,13 +1,20 @@
 //! Cells and netlists: what a raw module says, once it is accepted.
 #![tactic(auto)]
 
+mod assemble;
 mod cell;
 mod cells;
+mod clock;
+mod drives;
 mod fault;
+mod inits;
 mod netlist;
+mod nets;
+mod numbers;
 mod parameters;
 mod ports;
 mod raw_access;
+mod reads;
 pub mod table;
 
 pub use cell::{Cell, Digits, Given, Sources, Targets};

@@ -1,0 +1,12 @@
+use Rattle.cif_cells.specs.Drives.{driven_more}
+use Rattle.cif_cells.proofs.DriveLaws.{cell_recorded, cell_unknown, kind_same}
+use Rattle.cif_cells.proofs.drives.record_cell.Goals as goal
+
+pub returns-in-Some : goal.returns-in-Some
+returns-in-Some c = cell_recorded driven_more c.args.numbers.now c.args.drives.now _ c.args.index c.args.cell.now c.items.result.now c.in-Some.kind c.in-Some.ensures c.items.ensures c.record_kind.ensures
+
+pub returns-in_default : goal.returns-in_default
+returns-in_default c = cell_unknown driven_more c.args.numbers.now c.args.drives.now c.args.index c.args.cell.now c.items.result.now c.requires.same c.in_default.ensures c.items.ensures
+
+pub record_kind-requires-clause-known : goal.record_kind-requires-clause-known
+record_kind-requires-clause-known c = kind_same c.items.result.now c.args.cell.now.kind c.in-Some.kind c.in-Some.ensures c.items.ensures

@@ -1,0 +1,291 @@
+// Cells and wires of a netlist, from what a raw module says of them.
+ghost use Rattle.std.specs.Prelude.{◌≡◌, ◌<◌, ◌^◌, ◌&&◌, not, length, map, filter, Some, None, IfOk, if◌then◌else◌};
+ghost use Rattle.std.specs.List.Sorted.{IsStrictlyIncreasing};
+ghost use Rattle.cif_defs.specs.Table.{is_table, is_mask};
+ghost use Rattle.cif_defs.specs.RawModule.{number_given as number_of_cell, digits_given, digits_read, port_bits as bits_of_port};
+ghost use Rattle.cif_defs.specs.Accepted.{place_of as place_of_number, source as source_of, target as target_of, is_input as is_input_port, is_output as is_output_port, wire_of as wire_of_port, numbers_of, tables_of, cell_by, cell_of as cell_of_raw};
+ghost use Rattle.cif_defs.specs.Netlist.{no_cell};
+ghost use Rattle.cif_cells.specs.CellView.{numbers_seen, digits_seen};
+
+use crate::cell::{Cell, Digits, Given, Sources, Targets};
+use crate::clock::is_output;
+use crate::drives::is_input;
+use crate::numbers::place_of;
+use crate::raw_access::{
+    digit_count, name_copy, number_given, port_bits, value_digit, value_given,
+};
+use crate::table;
+use cif_defs::{
+    Kind, Listed, Name, NetBit, Param, ParamValue, PortRow, RawBit, RawCell, RawPort,
+    Src, Wire,
+};
+use std::alloc::{AllocError, Global};
+
+/// The net bit of a net number: its place among the net numbers of the module, or 0 where it isn't one of them.
+fn net_bit(numbers: &[u64], number: u64) -> NetBit
+    requires rising { IsStrictlyIncreasing numbers.now }
+    requires few { length numbers.now < 2 ^ 32 }
+    ensures { result ≡ place_of_number numbers.now number }
+{
+    match place_of(numbers, number) {
+        Some(place) => place as NetBit,
+        None => 0,
+    }
+}
+
+/// What a bit reads. x and z, which no accepted module reads, stand for 0.
+fn source(numbers: &[u64], bit: RawBit) -> Src
+    requires rising { IsStrictlyIncreasing numbers.now }
+    requires few { length numbers.now < 2 ^ 32 }
+    ensures { result ≡ source_of numbers.now bit }
+{
+    match bit {
+        RawBit::Net(number) => Src::Bit(net_bit(numbers, number)),
+        RawBit::One => Src::One,
+        RawBit::Zero | RawBit::X | RawBit::Z => Src::Zero,
+    }
+}
+
+/// The net bit that an output bit drives; None where it isn't connected.
+fn target(numbers: &[u64], bit: RawBit) -> Option<NetBit>
+    requires rising { IsStrictlyIncreasing numbers.now }
+    requires few { length numbers.now < 2 ^ 32 }
+    ensures { result ≡ target_of numbers.now bit }
+{
+    match bit {
+        RawBit::Net(number) => Some(net_bit(numbers, number)),
+        RawBit::Zero | RawBit::One | RawBit::X | RawBit::Z => None,
+    }
+}
+
+/// What some bits read.
+fn sources(alloc: Global, numbers: &[u64], bits: &[RawBit]) -> Result<Vec<Src>, AllocError>
+    requires rising { IsStrictlyIncreasing numbers.now }
+    requires few { length numbers.now < 2 ^ 32 }
+    ensures { IfOk result (λ v. v.items ≡ map (source_of numbers.now) bits.now) }
+{
+    bits.iter().map(|bit| source(numbers, *bit)).collect(alloc)
+}
+
+/// What some output bits drive.
+fn targets(
+    alloc: Global,
+    numbers: &[u64],
+    bits: &[RawBit],
+) -> Result<Vec<Option<NetBit>>, AllocError>
+    requires rising { IsStrictlyIncreasing numbers.now }
+    requires few { length numbers.now < 2 ^ 32 }
+    ensures { IfOk result (λ v. v.items ≡ map (target_of numbers.now) bits.now) }
+{
+    bits.iter().map(|bit| target(numbers, *bit)).collect(alloc)
+}
+
+/// What the operands of a cell read, where `rows` are their ports.
+fn operands(
+    alloc: Global,
+    numbers: &[u64],
+    cell: &RawCell,
+    rows: &[PortRow],
+) -> Result<Vec<Sources>, AllocError>
+    requires rising { IsStrictlyIncreasing numbers.now }
+    requires few { length numbers.now < 2 ^ 32 }
+    ensures { IfOk result
+        (λ v. v.items ≡ map (λ r. map (source_of numbers.now) (bits_of_port cell.now r)) rows.now) }
+{
+    let mut operands = Vec::new(alloc);
+    for row in rows {
+        let bits = sources(alloc, numbers, port_bits(cell, row))?;
+        operands.push(Listed::of(bits))?;
+    }
+    Ok(operands)
+}
+
+/// What the outputs of a cell drive, where `rows` are their ports.
+fn outputs(
+    alloc: Global,
+    numbers: &[u64],
+    cell: &RawCell,
+    rows: &[PortRow],
+) -> Result<Vec<Targets>, AllocError>
+    requires rising { IsStrictlyIncreasing numbers.now }
+    requires few { length numbers.now < 2 ^ 32 }
+    ensures { IfOk result
+        (λ v. v.items ≡ map (λ r. map (target_of numbers.now) (bits_of_port cell.now r)) rows.now) }
+{
+    let mut outputs = Vec::new(alloc);
+    for row in rows {
+        let bits = targets(alloc, numbers, port_bits(cell, row))?;
+        outputs.push(Listed::of(bits))?;
+    }
+    Ok(outputs)
+}
+
+/// The number that a cell gives for a parameter that is neither a table nor a mask.
+fn plain_number(cell: &RawCell, param: Param) -> Option<u64>
+    ensures { result ≡ (if not (is_table param) && not (is_mask param) then number_of_cell cell.now param else None) }
+{
+    if table::is_table(param) || table::is_mask(param) {
+        None
+    } else {
+        number_given(cell, param)
+    }
+}
+
+/// The numbers that a cell gives for those parameters that are neither tables nor masks.
+fn numbers_given(alloc: Global, cell: &RawCell, params: &[Param]) -> Result<Vec<Given>, AllocError>
+    ensures { IfOk result (λ v. numbers_seen v.items ≡ numbers_of cell.now params.now) }
+{
+    let mut numbers = Vec::new(alloc);
+    for param in params {
+        if let Some(number) = plain_number(cell, *param) {
+            numbers.push(Given {
+                param: *param,
+                number,
+            })?;
+        }
+    }
+    Ok(numbers)
+}
+
+/// The digits of a value, lowest first, where x and z are 0.
+fn value_digits(alloc: Global, value: &ParamValue) -> Result<Vec<bool>, AllocError>
+    ensures { IfOk result (λ v. v.items ≡ digits_read value.now) }
+{
+    let mut digits = Vec::new(alloc);
+    for index in 0..digit_count(value) {
+        digits.push(value_digit(value, index))?;
+    }
+    Ok(digits)
+}
+
+/// The digits that a cell gives for a parameter, lowest first, where x and z are 0; none where it gives no value.
+fn param_digits(alloc: Global, cell: &RawCell, param: Param) -> Result<Vec<bool>, AllocError>
+    ensures { IfOk result (λ v. v.items ≡ digits_given cell.now param) }
+{
+    match value_given(cell, param) {
+        Some(value) => value_digits(alloc, value),
+        None => Ok(Vec::new(alloc)),
+    }
+}
+
+/// The digits that a cell gives for those parameters that are tables.
+fn tables_given(alloc: Global, cell: &RawCell, params: &[Param]) -> Result<Vec<Digits>, AllocError>
+    ensures { IfOk result (λ v. digits_seen v.items ≡ tables_of cell.now params.now) }
+{
+    let mut tables = Vec::new(alloc);
+    for param in params {
+        if table::is_table(*param) {
+            let bits = Listed::of(param_digits(alloc, cell, *param)?);
+            tables.push(Digits {
+                param: *param,
+                bits,
+            })?;
+        }
+    }
+    Ok(tables)
+}
+
+/// A cell of a kind.
+fn known_cell(
+    alloc: Global,
+    numbers: &[u64],
+    cell: &RawCell,
+    kind: Kind,
+) -> Result<Cell, AllocError>
+    requires rising { IsStrictlyIncreasing numbers.now }
+    requires few { length numbers.now < 2 ^ 32 }
+    ensures { IfOk result (λ c. c ≡ cell_by numbers.now cell.now (Some kind)) }
+{
+    let name = name_copy(alloc, cell.name.items())?;
+    let given = numbers_given(alloc, cell, table::parameters(kind))?;
+    let digits = tables_given(alloc, cell, table::parameters(kind))?;
+    let read = operands(alloc, numbers, cell, table::operands(kind))?;
+    let driven = outputs(alloc, numbers, cell, table::outputs(kind))?;
+    Ok(Cell::of(name, kind, given, digits, read, driven))
+}
+
+/// A cell without name, parameters and ports.
+fn empty_cell(alloc: Global) -> Cell
+    ensures { result ≡ no_cell }
+{
+    Cell::of(
+        Name::of(Vec::new(alloc)),
+        Kind::ScopeInfo,
+        Vec::new(alloc),
+        Vec::new(alloc),
+        Vec::new(alloc),
+        Vec::new(alloc),
+    )
+}
+
+/// The cell that a raw cell stands for, where `numbers` are the net numbers of its module. A cell of a type that the
+/// table of kinds lacks, which no accepted module has, stands for one without parameters and ports.
+#[tactic(auto, unfolding(cif_defs::specs::Accepted::cell_of))]
+pub fn cell_of(alloc: Global, numbers: &[u64], cell: &RawCell) -> Result<Cell, AllocError>
+    requires rising { IsStrictlyIncreasing numbers.now }
+    requires few { length numbers.now < 2 ^ 32 }
+    ensures { IfOk result (λ c. c ≡ cell_of_raw numbers.now cell.now) }
+{
+    match table::kind_of(cell.kind.items()) {
+        Some(kind) => known_cell(alloc, numbers, cell, kind),
+        None => Ok(empty_cell(alloc)),
+    }
+}
+
+/// The cells that raw cells stand for, where `numbers` are the net numbers of their module.
+pub fn cells_of(alloc: Global, numbers: &[u64], cells: &[RawCell]) -> Result<Vec<Cell>, AllocError>
+    requires rising { IsStrictlyIncreasing numbers.now }
+    requires few { length numbers.now < 2 ^ 32 }
+    ensures { IfOk result (λ v. v.items ≡ map (cell_of_raw numbers.now) cells.now) }
+{
+    let mut assembled = Vec::new(alloc);
+    for cell in cells {
+        assembled.push(cell_of(alloc, numbers, cell)?)?;
+    }
+    Ok(assembled)
+}
+
+/// The wire that a port of the module stands for, where `numbers` are the net numbers of the module.
+pub fn wire_of(alloc: Global, numbers: &[u64], port: &RawPort) -> Result<Wire, AllocError>
+    requires rising { IsStrictlyIncreasing numbers.now }
+    requires few { length numbers.now < 2 ^ 32 }
+    ensures { IfOk result (λ w. w ≡ wire_of_port numbers.now port.now) }
+{
+    let name = name_copy(alloc, port.name.items())?;
+    let bits = sources(alloc, numbers, port.bits.items())?;
+    Ok(Wire::of(name, bits))
+}
+
+/// The wires that the input ports of a module stand for, where `numbers` are its net numbers.
+pub fn inputs_of(alloc: Global, numbers: &[u64], ports: &[RawPort]) -> Result<Vec<Wire>, AllocError>
+    requires rising { IsStrictlyIncreasing numbers.now }
+    requires few { length numbers.now < 2 ^ 32 }
+    ensures { IfOk result (λ v. v.items ≡ map (wire_of_port numbers.now) (filter is_input_port ports.now)) }
+{
+    let mut wires = Vec::new(alloc);
+    for port in ports {
+        if is_input(port) {
+            wires.push(wire_of(alloc, numbers, port)?)?;
+        }
+    }
+    Ok(wires)
+}
+
+/// The wires that the output ports of a module stand for, where `numbers` are its net numbers.
+pub fn outputs_of(
+    alloc: Global,
+    numbers: &[u64],
+    ports: &[RawPort],
+) -> Result<Vec<Wire>, AllocError>
+    requires rising { IsStrictlyIncreasing numbers.now }
+    requires few { length numbers.now < 2 ^ 32 }
+    ensures { IfOk result (λ v. v.items ≡ map (wire_of_port numbers.now) (filter is_output_port ports.now)) }
+{
+    let mut wires = Vec::new(alloc);
+    for port in ports {
+        if is_output(port) {
+            wires.push(wire_of(alloc, numbers, port)?)?;
+        }
+    }
+    Ok(wires)
+}
