@@ -138,7 +138,7 @@ bits_by_kind : (c : RawCell) (o : Option Kind) → kind_of c.kind ≡ o → map 
 bits_by_kind c None e = sym (ap (bits_by clocks_of c) e)
 bits_by_kind c (Some k) e = bits_of_uses c (role_of k) 0 (clock_bits c)
 
-all_uses : (cells : List RawCell) → map (λ (u : ClockUse). u.bit) (flat_map (λ (c : RawCell). clock_uses_by c (kind_of c.kind)) cells) ≡ flat_map clock_bits cells
+pub all_uses : (cells : List RawCell) → map (λ (u : ClockUse). u.bit) (flat_map (λ (c : RawCell). clock_uses_by c (kind_of c.kind)) cells) ≡ flat_map clock_bits cells
 all_uses [] = refl
 all_uses (c ∷ cs) = map-append (λ (u : ClockUse). u.bit) (clock_uses_by c (kind_of c.kind)) (flat_map (λ (c : RawCell). clock_uses_by c (kind_of c.kind)) cs)
     ∙ ap (λ (bs : List RawBit). bs ++ map (λ (u : ClockUse). u.bit) (flat_map (λ (c : RawCell). clock_uses_by c (kind_of c.kind)) cs)) (bits_by_kind c (kind_of c.kind) refl)

@@ -11,3 +11,4 @@ pub mod Nets
 pub mod Clocks
 pub mod Reads
 pub mod CellReads
+pub mod Building

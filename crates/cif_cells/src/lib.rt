@@ -2,9 +2,11 @@
 #![tactic(auto)]
 
 mod assemble;
+mod build;
 mod cell;
 mod cells;
 mod clock;
+mod drivers;
 mod drives;
 mod fault;
 mod inits;
@@ -20,8 +22,8 @@ pub mod table;
 pub use cell::{Cell, Digits, Given, Sources, Targets};
 pub use cif_defs::{
     CellList, CellPort, Connection, Connections, Direction, Driver, Kind, Listed, Name, NetBit,
-    Param, ParamValue, Params, PortRow, PortWidth, Raw, RawBit, RawBits, RawCell, RawName, Role,
-    RawNames, RawParam, RawPort, RawPorts, Src, Wire,
+    Param, ParamValue, Params, PortRow, PortWidth, Raw, RawBit, RawBits, RawCell, RawName,
+    RawNames, RawParam, RawPort, RawPorts, Role, Src, Wire,
 };
 pub use fault::{BuildFault, Spot};
 pub use netlist::Netlist;

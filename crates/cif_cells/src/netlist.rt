@@ -1,12 +1,19 @@
 // Accepted netlists.
-ghost use Rattle.std.specs.Prelude.{◌≡◌, ◌<◌, ◌≤◌, length, get_or, []};
+ghost use Rattle.std.specs.Prelude.{◌≡◌, ◌<◌, ◌≤◌, length, get_or, map, [], IfOk};
 ghost use Rattle.cif_defs.specs.Words.{bit};
 ghost use Rattle.cif_defs.specs.Accepted.{netlist_of};
 ghost use Rattle.cif_defs.specs.Netlist.{driver_of, IsWired};
+ghost use Rattle.cif_defs.specs.RawModule.{net_numbers};
 ghost use Rattle.cif_cells.specs.Checks.{IsAccepted};
+ghost use Rattle.cif_cells.specs.Inits.{init_of};
 
+use crate::assemble::{cells_of, inputs_of, outputs_of};
 use crate::cell::Cell;
+use crate::drivers::drivers_of;
+use crate::inits::{InitBit, initial_words};
+use crate::nets::Nets;
 use cif_defs::{Driver, Listed, NetBit, Raw, Wire};
+use std::alloc::{AllocError, Global};
 use std::marker::Model;
 
 /// The netlist of a raw module that was accepted. Contracts see it as that module: all else is what the definitions
@@ -34,6 +41,33 @@ impl Model for Netlist {
 }
 
 impl Netlist {
+    /// The netlist of an accepted module, where `inits` are what `init` attributes give for each net number.
+    pub(crate) fn assemble(
+        alloc: Global,
+        nets: Nets,
+        inits: &[InitBit],
+    ) -> Result<Netlist, AllocError>
+        requires accepted { IsAccepted nets }
+        requires inits { inits.now ≡ map (init_of nets.names) (net_numbers nets) }
+        ensures { IfOk result (λ n. n ≡ nets) }
+    {
+        let raw = nets.raw();
+        let numbers = nets.numbers();
+        let inputs = inputs_of(alloc, numbers, raw.ports.items())?;
+        let outputs = outputs_of(alloc, numbers, raw.ports.items())?;
+        let cells = cells_of(alloc, numbers, raw.cells.items())?;
+        let drivers = drivers_of(alloc, &nets)?;
+        let initial = initial_words(alloc, raw, numbers, inits)?;
+        Ok(Netlist {
+            raw: nets.into_raw(),
+            inputs,
+            outputs,
+            cells,
+            drivers,
+            initial,
+        })
+    }
+
     /// The module as it was read.
     pub fn raw(&self) -> &Raw
         ensures is { result.now ≡ self.now }
