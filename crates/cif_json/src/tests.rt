@@ -57,7 +57,11 @@ fn outcome(alloc: Global, text: &str) -> Result<String, AllocError> {
 }
 
 /// Each text gives what stands beside it.
-fn all_give(rt: &impl Abort, alloc: Global, cases: &[(&str, &str)]) -> Result<(), AllocError> {
+fn assert_outcomes(
+    rt: &impl Abort,
+    alloc: Global,
+    cases: &[(&str, &str)],
+) -> Result<(), AllocError> {
     for (text, want) in cases {
         assert_eq!(rt; outcome(alloc, text)?.as_str(), *want, "at {text}");
     }
@@ -71,7 +75,7 @@ fn not_json(rt: HostRuntime) -> Result<(), Fail> {
         ("", "not JSON"),
         (r#"{"modules":{}}"#, "no modules"),
     ];
-    all_give(&rt, rt.alloc(), &cases)?;
+    assert_outcomes(&rt, rt.alloc(), &cases)?;
     Ok(())
 }
 
@@ -94,7 +98,7 @@ fn shape_and_top(rt: HostRuntime) -> Result<(), Fail> {
             "no top",
         ),
     ];
-    all_give(&rt, rt.alloc(), &cases)?;
+    assert_outcomes(&rt, rt.alloc(), &cases)?;
     Ok(())
 }
 
@@ -107,7 +111,7 @@ fn deep_brackets(rt: HostRuntime) -> Result<(), Fail> {
     for _ in 0..200 {
         text.push(']')?;
     }
-    all_give(&rt, rt.alloc(), &[(text.as_str(), "not JSON")])?;
+    assert_outcomes(&rt, rt.alloc(), &[(text.as_str(), "not JSON")])?;
     Ok(())
 }
 
@@ -127,7 +131,7 @@ fn whole_numbers(rt: HostRuntime) -> Result<(), Fail> {
             "modules/m/cells/c/parameters/P",
         ),
     ];
-    all_give(&rt, rt.alloc(), &cases)?;
+    assert_outcomes(&rt, rt.alloc(), &cases)?;
     Ok(())
 }
 
@@ -155,7 +159,7 @@ fn first_wrong_place(rt: HostRuntime) -> Result<(), Fail> {
             "modules//cells//type",
         ),
     ];
-    all_give(&rt, rt.alloc(), &cases)?;
+    assert_outcomes(&rt, rt.alloc(), &cases)?;
     Ok(())
 }
 
