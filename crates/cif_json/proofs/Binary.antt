@@ -1,12 +1,12 @@
 -- Numbers read digit by digit, highest first.
 use Rattle.std.specs.Prelude.{ℕ, ◌+◌, ◌*◌, ◌^◌, ◌<◌, ◌≤◌, nat_lt, ◌≡◌, ◌==◌, Bool, true, false, not, ◌&&◌, List, [], ◌∷◌, length, drop, get_or, map, Option, Some, None, if◌then◌else◌, refl}
 use Rattle.std.specs.List.{list_all}
-use Rattle.std.proofs.Common.{ap, sym, ◌∙◌, arith, add-one, drop-cons, rules}
+use Rattle.std.proofs.Common.{ap, sym, ◌∙◌, arith, add-one, drop-cons}
 use Rattle.std.proofs.lemmas.Bool.Decides.{nat_tests}
 use Rattle.std.proofs.lemmas.Bool.{eqb-true}
 use mathlib.Core.List.{reverse_aux}
 use Rattle.cif_defs.specs.Words.{bit_value, number}
-use Rattle.cif_defs.specs.WordText.{word_of_text, is_no_digit}
+use Rattle.cif_defs.specs.WordText.{is_no_digit}
 use Rattle.cif_defs.specs.RawModule.{below_limit, needed_number}
 use Rattle.cif_defs.specs.declared.raw_module.ParamValue.TheVariants.{Text}
 use Rattle.cif_json.specs.Top.{binary_digit}

@@ -1,7 +1,7 @@
 -- Lists of bits, things and attributes, as a loop makes them.
 use Rattle.std.specs.Prelude.{ℕ, zero, suc, ◌+◌, ◌<◌, ◌≡◌, List, [], ◌∷◌, ◌++◌, length, get_or, drop, String, string_bytes, Option, Some, None, option_map, option_and_then, Result, Ok, Err, refl}
 use Rattle.std.proofs.Common.{ap, sym, ◌∙◌, arith, add-one, Global, append_assoc}
-use Rattle.serde_json.specs.Data.{Data, Members}
+use Rattle.serde_json.specs.Data.{Data}
 use Rattle.serde_json.specs.View.{view, items_view, members_view}
 use Rattle.serde_json.specs.declared.value.Value.{Value}
 use Rattle.cif_defs.specs.declared.raw_module.RawBit.{RawBit}
@@ -10,7 +10,7 @@ use Rattle.cif_defs.specs.declared.raw_module.ParamValue.{ParamValue}
 use Rattle.cif_json.specs.declared.misfit.Misfit.{Misfit}
 use Rattle.cif_json.specs.declared.misfit.Misfit.TheVariants.{At, NoMemory}
 use Rattle.cif_json.specs.Reading.{Place, ◌and_then◌, within, each}
-use Rattle.cif_json.specs.Shape.{bit_of, bits_of_items, value_of, kept, param_of, attributes_of}
+use Rattle.cif_json.specs.Shape.{bit_of, bits_of_items, kept, param_of}
 use Rattle.cif_json.specs.Answers.{Answers}
 
 abbrev pub Entry : Type 0

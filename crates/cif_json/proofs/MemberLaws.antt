@@ -1,9 +1,9 @@
 -- Maps of JSON values beside the members that they stand for.
-use Rattle.std.specs.Prelude.{ℕ, ◌≡◌, List, Bool, true, false, bytes_eq, String, Option, Some, None, option_map, if◌then◌else◌, string_bytes, refl}
+use Rattle.std.specs.Prelude.{ℕ, ◌≡◌, List, Bool, true, false, bytes_eq, String, Option, None, option_map, if◌then◌else◌, string_bytes, refl}
 use Rattle.std.proofs.Common.{ap, sym, ◌∙◌, Global, nat_cmp, string_cmp}
 use Rattle.std.proofs.lemmas.Map.Text.{btree_map_updates_text}
 use Rattle.std.specs.Cmp.Lexicographic.{slice_cmp}
-use Rattle.std.specs.BTreeMap.{BTreeMap, UpdatesBy}
+use Rattle.std.specs.BTreeMap.{UpdatesBy}
 use Rattle.serde_json.specs.Data.{Data}
 use Rattle.serde_json.specs.View.{view}
 use Rattle.serde_json.specs.declared.value.Value.{Value}

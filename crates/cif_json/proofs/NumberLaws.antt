@@ -1,5 +1,5 @@
 -- Numbers other than zero.
-use Rattle.std.specs.Prelude.{ℕ, ◌≡◌, Float, Option, Some, None}
+use Rattle.std.specs.Prelude.{◌≡◌, Float, Some, None}
 use Rattle.std.specs.Float.Ieee.{ne}
 use Rattle.std.proofs.Common.{ap}
 use Rattle.serde_json.specs.Data.{Num, unsigned, negative, float}

@@ -1,11 +1,10 @@
 -- The names of a module that was read stand in byte order, each once.
-use Rattle.std.specs.Prelude.{ℕ, ◌≡◌, Bool, true, false, List, [], ◌∷◌, map, codes, Option, Some, None, option_map, option_and_then, Result, Ok, Err, ok_or, ⊤, refl}
+use Rattle.std.specs.Prelude.{ℕ, ◌≡◌, Bool, true, false, List, [], ◌∷◌, map, codes, Option, Some, None, option_and_then, Result, Ok, Err, ok_or, ⊤, refl}
 use Rattle.std.proofs.Common.{sym, ap, ◌∙◌, subst, Less}
 use Rattle.std.specs.List.{AllByRecursion}
 use Rattle.std.specs.List.Sorted.{IsStrictlySortedBy}
 use Rattle.serde_json.specs.Data.{Data, Members, no_members, member}
 use Rattle.serde_json.specs.Find.{get_member, as_str, as_object}
-use Rattle.cif_defs.specs.declared.raw_module.RawBit.{RawBit}
 use Rattle.cif_defs.specs.declared.raw_module.ParamValue.{ParamValue}
 use Rattle.cif_defs.specs.declared.raw_module.RawParam.{RawParam}
 use Rattle.cif_defs.specs.declared.raw_module.Connection.{Connection}
@@ -14,7 +13,7 @@ use Rattle.cif_defs.specs.declared.raw_module.RawCell.{RawCell}
 use Rattle.cif_defs.specs.declared.raw_module.RawName.{RawName}
 use Rattle.cif_defs.specs.declared.raw_module.Raw.{Raw}
 use Rattle.cif_json.specs.Reading.{Place, ◌and_then◌, within, needed, members_of, members_if_any, each}
-use Rattle.cif_json.specs.Shape.{value_of, param_of, parameter, kept, attributes_of, bits_of, connection, needed_in, things_in, attributes_in, direction_of, port, cell, named_net, module_of}
+use Rattle.cif_json.specs.Shape.{value_of, parameter, kept, attributes_of, bits_of, connection, needed_in, things_in, attributes_in, direction_of, port, cell, named_net, module_of}
 use Rattle.cif_json.specs.Top.{some_members, modules_of, is_top, with_module, tops_of, only_one, chosen, from_file, netlist_of}
 use Rattle.cif_json.specs.Answers.{ComesTo}
 use Rattle.cif_json.specs.Order.{AreInOrder, param_names, IsCellInOrder, IsNetInOrder, IsInOrder}

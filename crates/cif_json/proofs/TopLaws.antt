@@ -1,10 +1,10 @@
 -- The choice of a module, as code makes it.
-use Rattle.std.specs.Prelude.{ℕ, ◌≡◌, ◌≢◌, Bool, true, false, IsTrue, List, [], ◌∷◌, ◌++◌, length, Option, Some, None, option_map, string_bytes, refl}
-use Rattle.std.proofs.Common.{ap, sym, ◌∙◌, subst, arith}
-use Rattle.serde_json.specs.Data.{Data, Members}
+use Rattle.std.specs.Prelude.{ℕ, ◌≡◌, ◌≢◌, Bool, true, false, IsTrue, List, [], ◌∷◌, length, Option, Some, None, string_bytes, refl}
+use Rattle.std.proofs.Common.{arith}
+use Rattle.serde_json.specs.Data.{Data}
 use Rattle.serde_json.specs.View.{view, members_view}
 use Rattle.cif_json.proofs.Folds.{Entry}
-use Rattle.cif_json.specs.Top.{some_members, is_top, with_module, tops_of, only_one, chosen}
+use Rattle.cif_json.specs.Top.{some_members, tops_of, only_one, chosen}
 
 pub members_there : (es : List Entry) (b : Bool) → (length es ≡ 0 → IsTrue b) → b ≡ false → some_members (members_view es) ≡ Some (members_view es)
 members_there [] b h e = absurd (let on : b ≡ true = h refl in (cc))

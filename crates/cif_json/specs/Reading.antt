@@ -1,7 +1,7 @@
 -- Readings that may find a wrong place: one after another, the first wrong place counts.
 use Rattle.std.specs.Prelude.{ℕ, List, [], ◌∷◌, ◌++◌, Option, Some, None, Result, Ok, Err}
-use Rattle.serde_json.specs.Data.{Data, Items, no_items, item, Members, no_members, member}
-use Rattle.serde_json.specs.Find.{get_member, as_object}
+use Rattle.serde_json.specs.Data.{Data, Members, no_members, member}
+use Rattle.serde_json.specs.Find.{as_object}
 
 -- a place under the value that is read: the names that lead there, a slash before each
 abbrev pub Place : Type 0

@@ -35,6 +35,9 @@ const COUNTER: &str = r#"{"creator":"Yosys","modules":{"counter":{
  "rst":{"hide_name":0,"bits":[3],"attributes":{}}}}}}
 "#;
 
+/// A text that ends too soon.
+const CUT: &str = r#"{"modules":{"m":"#;
+
 /// The path of a wrong shape, or another word for what a text gives.
 fn outcome(alloc: Global, text: &str) -> Result<String, AllocError> {
     match read_netlist(alloc, text.as_bytes()) {
@@ -53,16 +56,26 @@ fn outcome(alloc: Global, text: &str) -> Result<String, AllocError> {
     }
 }
 
+/// Each text gives what stands beside it.
+fn assert_outcomes(
+    rt: &impl Abort,
+    alloc: Global,
+    cases: &[(&str, &str)],
+) -> Result<(), AllocError> {
+    for (text, want) in cases {
+        assert_eq!(rt; outcome(alloc, text)?.as_str(), *want, "at {text}");
+    }
+    Ok(())
+}
+
 #[test]
 fn not_json(rt: HostRuntime) -> Result<(), Fail> {
     let cases = [
-        (r#"{"modules":{"m":"#, "not JSON"),
+        (CUT, "not JSON"),
         ("", "not JSON"),
         (r#"{"modules":{}}"#, "no modules"),
     ];
-    for (text, want) in cases {
-        assert_eq!(rt; outcome(rt.alloc(), text)?.as_str(), want, "at {text}");
-    }
+    assert_outcomes(&rt, rt.alloc(), &cases)?;
     Ok(())
 }
 
@@ -74,10 +87,18 @@ fn shape_and_top(rt: HostRuntime) -> Result<(), Fail> {
             "modules/m/ports/a/direction",
         ),
         (r#"{"modules":{"m":{},"n":{}}}"#, "no top"),
+        // A module that is no object is wrong itself, and is never marked.
+        (r#"{"modules":{"m":3}}"#, "modules/m"),
+        (
+            r#"{"modules":{"m":3,"n":{"attributes":{"top":"01"}}}}"#,
+            "read",
+        ),
+        (
+            r#"{"modules":{"m":{"attributes":{"top":1.0}},"n":{"attributes":{"top":0}}}}"#,
+            "no top",
+        ),
     ];
-    for (text, want) in cases {
-        assert_eq!(rt; outcome(rt.alloc(), text)?.as_str(), want, "at {text}");
-    }
+    assert_outcomes(&rt, rt.alloc(), &cases)?;
     Ok(())
 }
 
@@ -90,14 +111,13 @@ fn deep_brackets(rt: HostRuntime) -> Result<(), Fail> {
     for _ in 0..200 {
         text.push(']')?;
     }
-    assert_eq!(rt; outcome(rt.alloc(), text.as_str())?.as_str(), "not JSON");
+    assert_outcomes(&rt, rt.alloc(), &[(text.as_str(), "not JSON")])?;
     Ok(())
 }
 
 #[test]
-fn forms(rt: HostRuntime) -> Result<(), Fail> {
+fn whole_numbers(rt: HostRuntime) -> Result<(), Fail> {
     let cases = [
-        // A float is no whole number, a large one is none below 2 to the 32, and an array is one place.
         (
             r#"{"modules":{"m":{"netnames":{"w":{"bits":[2.0]}}}}}"#,
             "modules/m/netnames/w/bits",
@@ -110,7 +130,14 @@ fn forms(rt: HostRuntime) -> Result<(), Fail> {
             r#"{"modules":{"m":{"cells":{"c":{"type":"$not","parameters":{"P":1e0}}}}}}"#,
             "modules/m/cells/c/parameters/P",
         ),
-        // A missing member is named.
+    ];
+    assert_outcomes(&rt, rt.alloc(), &cases)?;
+    Ok(())
+}
+
+#[test]
+fn first_wrong_place(rt: HostRuntime) -> Result<(), Fail> {
+    let cases = [
         (
             r#"{"modules":{"m":{"ports":{"a":{"bits":[]}}}}}"#,
             "modules/m/ports/a/direction",
@@ -119,17 +146,6 @@ fn forms(rt: HostRuntime) -> Result<(), Fail> {
             r#"{"modules":{"m":{"cells":{"c":{}}}}}"#,
             "modules/m/cells/c/type",
         ),
-        // A module that is no object is wrong itself, and is never marked.
-        (r#"{"modules":{"m":3}}"#, "modules/m"),
-        (
-            r#"{"modules":{"m":3,"n":{"attributes":{"top":"01"}}}}"#,
-            "read",
-        ),
-        (
-            r#"{"modules":{"m":{"attributes":{"top":1.0}},"n":{"attributes":{"top":0}}}}"#,
-            "no top",
-        ),
-        // Attributes come before ports, and ports in order of name.
         (
             r#"{"modules":{"m":{"ports":{"b":1,"a":1},"attributes":[]}}}"#,
             "modules/m/attributes",
@@ -138,15 +154,12 @@ fn forms(rt: HostRuntime) -> Result<(), Fail> {
             r#"{"modules":{"m":{"ports":{"b":1,"a":1}}}}"#,
             "modules/m/ports/a",
         ),
-        // Names may be empty.
         (
             r#"{"modules":{"":{"cells":{"":{"type":1}}}}}"#,
             "modules//cells//type",
         ),
     ];
-    for (text, want) in cases {
-        assert_eq!(rt; outcome(rt.alloc(), text)?.as_str(), want, "at {text}");
-    }
+    assert_outcomes(&rt, rt.alloc(), &cases)?;
     Ok(())
 }
 

@@ -1,4 +1,4 @@
-use Rattle.std.proofs.Common.{◌≡◌, ◌∙◌, List, ap, sym, Ok, String, Global, string_bytes}
+use Rattle.std.proofs.Common.{◌≡◌, ◌∙◌, List, ap, sym, Ok, string_bytes}
 use Rattle.serde_json.specs.View.{view, members_view}
 use Rattle.cif_json.specs.Reading.{within, each}
 use Rattle.cif_json.proofs.Folds.{Entry, more_things, thing_step}

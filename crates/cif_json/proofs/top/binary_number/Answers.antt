@@ -1,4 +1,4 @@
-use Rattle.std.proofs.Common.{◌∙◌, ◌<◌, ◌^◌, ◌+◌, ◌*◌, drop, sym, arith}
+use Rattle.std.proofs.Common.{◌∙◌, ◌+◌, ◌*◌, drop, sym, arith}
 use Rattle.cif_json.proofs.Binary.{number_if_empty, number_if_some, next_digit, number_too_large}
 use Rattle.cif_json.proofs.top.binary_number.Goals as goal
 

@@ -1,4 +1,4 @@
-use Rattle.std.proofs.Common.{◌≡◌, ◌≢◌, ◌∙◌, length, rules}
+use Rattle.std.proofs.Common.{◌≢◌, ◌∙◌, length, rules}
 use Rattle.cif_json.proofs.TopLaws.{chosen_of_many}
 use Rattle.cif_json.proofs.top.chosen.Goals as goal
 

@@ -1,8 +1,4 @@
-use Rattle.std.proofs.Common.{◌≡◌, ◌∙◌, sym, ap, Some, codes, option_and_then}
-use Rattle.serde_json.specs.View.{view, members_view}
-use Rattle.serde_json.specs.Data.{Data, Members}
-use Rattle.serde_json.specs.Find.{get_member, as_object}
-use Rattle.cif_json.specs.Top.{some_members}
+use Rattle.std.proofs.Common.{sym}
 use Rattle.cif_json.proofs.TopLaws.{members_there}
 use Rattle.cif_json.proofs.top.modules.Goals as goal
 
