@@ -1,10 +1,9 @@
 -- The number of decimal digits, digit by digit.
-use Rattle.std.specs.Prelude.{ℕ, ◌+◌, ◌<◌, ◌≤◌, ◌^◌, ◌≡◌, nat_lt, nat_le, Bool, true, false, ◌&&◌, IsTrue, List, [], ◌∷◌, fold, length, get_or, Option, Some, None, ◌⊎◌}
+use Rattle.std.specs.Prelude.{ℕ, ◌+◌, ◌<◌, ◌≤◌, ◌^◌, ◌≡◌, nat_lt, true, false, ◌&&◌, List, [], ◌∷◌, fold, length, get_or, Some, None, ◌⊎◌}
 use Rattle.std.proofs.Common.{arith, sym, ap, ◌∙◌, drop, inl, inr, if◌then◌else◌}
-use Rattle.std.specs.List.{list_all}
 use Rattle.std.proofs.lemmas.List.{at_drop_more, at_drop_all}
 use Rattle.std.proofs.lemmas.Bool.Decides.{nat_tests}
-use Rattle.cif_defs.specs.Text.{is_decimal_digit, is_decimal, decimal_value, number_read}
+use Rattle.cif_defs.specs.Text.{is_decimal, decimal_value, number_read}
 use Rattle.cif_stim.specs.LineWords.{below_limit, number_with}
 
 -- digits only raise a number

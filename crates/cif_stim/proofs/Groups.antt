@@ -6,7 +6,7 @@ use Rattle.std.specs.List.{list_all}
 use Rattle.cif_defs.specs.Netlist.{Netlist}
 use Rattle.cif_defs.specs.Text.{lines_of, words_of}
 use Rattle.cif_defs.specs.Stimulus.{Stimulus, StimLine}
-use Rattle.cif_defs.specs.StimulusText.{Group, no_group, group_after, line_read, lines_read, with_line, is_plain_word}
+use Rattle.cif_defs.specs.StimulusText.{Group, group_after, line_read, lines_read, with_line, is_plain_word}
 use Rattle.cif_stim.specs.Reading.{group_of, step_of, lines_in, Takes, Refuses}
 use Rattle.cif_stim.specs.declared.fault.StimFault.{StimFault}
 use Rattle.cif_stim.specs.declared.fault.StimFault.TheVariants.{NotBuilt, Memory}

@@ -1,10 +1,9 @@
 -- The first two lines of a stimulus.
-use Rattle.std.specs.Prelude.{ℕ, ◌≡◌, ◌==◌, Bool, true, false, List, [], ◌∷◌, map, length, Option, Some, None, option_and_then, option_map, refl}
-use Rattle.std.proofs.Common.{arith, sym, ap, ◌∙◌, if◌then◌else◌}
+use Rattle.std.specs.Prelude.{ℕ, ◌≡◌, ◌==◌, true, false, List, [], ◌∷◌, map, length, Option, Some, None, option_and_then, option_map, refl}
+use Rattle.std.proofs.Common.{arith, ap, ◌∙◌, if◌then◌else◌}
 use Rattle.std.proofs.lemmas.Bool.Decides.{nat_tests}
 use Rattle.cif_defs.specs.Netlist.{Netlist}
 use Rattle.cif_defs.specs.Text.{lines_of, words_of}
-use Rattle.cif_defs.specs.Stimulus.{Stimulus}
 use Rattle.cif_defs.specs.StimulusText.{stimulus_read, stimulus_by_lines, lines_read, no_group, is_version_line, cycles_read}
 use Rattle.cif_stim.specs.Reading.{lines_in}
 

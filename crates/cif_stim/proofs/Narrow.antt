@@ -1,15 +1,14 @@
 -- An accepted module's ports aren't wide.
 use Rattle.std.specs.Prelude.{ℕ, zero, suc, ◌≤◌, ◌≡◌, nat_lt, Bool, true, false, List, [], ◌∷◌, map, filter, length, get_or, Option, Some, None, refl}
-use Rattle.std.proofs.Common.{arith, sym, ap, ◌∙◌, cond}
+use Rattle.std.proofs.Common.{arith, cond}
 use Rattle.std.proofs.lemmas.List.{length-map}
 use Rattle.std.proofs.lemmas.Bool.Decides.{nat_tests}
 use Rattle.cif_defs.specs.Netlist.{no_wire}
 use Rattle.cif_defs.specs.Accepted.{netlist_of, is_input, wire_of, source}
 use Rattle.cif_defs.specs.RawModule.{net_numbers}
-use Rattle.cif_defs.specs.declared.nets.Wire.{Wire}
 use Rattle.cif_defs.specs.declared.raw_module.RawPort.{RawPort}
 use Rattle.cif_defs.specs.declared.raw_module.Raw.{Raw}
-use Rattle.cif_cells.specs.Checks.{◌else_by◌, fault_if, build_fault, counts_fault, ports_fault, ports_fault_from, port_fault, seen_after, IsAccepted}
+use Rattle.cif_cells.specs.Checks.{◌else_by◌, fault_if, build_fault, ports_fault, ports_fault_from, port_fault, seen_after, IsAccepted}
 use Rattle.cif_cells.specs.declared.fault.BuildFault.{BuildFault}
 
 first_none : (a b : Option BuildFault) → (a else_by b) ≡ None → a ≡ None

@@ -1,7 +1,7 @@
 -- The places of ports by name.
 use Rattle.std.specs.Prelude.{ℕ, zero, suc, ◌+◌, ◌-◌, ◌<◌, ◌≤◌, ◌≡◌, Bool, true, false, List, [], ◌∷◌, length, get_or, drop, bytes_eq, Option, Some, None, IsSome, option_and_then, refl}
 use Rattle.std.proofs.Common.{arith, sym, ap, subst, ◌∙◌, cond, if◌then◌else◌}
-use Rattle.std.specs.List.{find, position_from, list_any}
+use Rattle.std.specs.List.{find, list_any}
 use Rattle.std.proofs.lemmas.List.{at_drop_more, at_drop_all, get_or_default}
 use Rattle.std.proofs.lemmas.List.Quantifiers.{position-Some}
 use Rattle.std.proofs.lemmas.Iterator.Adapters.{position_from-zero}

@@ -5,7 +5,7 @@ use Rattle.std.specs.List.{list_any}
 use Rattle.std.proofs.lemmas.List.{take_more, take_all, take-append-drop, map-append, get_or_default, length-map}
 use Rattle.std.proofs.lemmas.Bool.Decides.{nat_tests}
 use Rattle.std.proofs.Math.Nat.{mul-zero}
-use Rattle.cif_defs.specs.Words.{bit, word}
+use Rattle.cif_defs.specs.Words.{bit}
 use Rattle.cif_defs.proofs.WordLaws.{bit-word, past_word}
 use Rattle.cif_defs.specs.Kinds.{role_of}
 use Rattle.cif_defs.specs.declared.kinds.Role.{Role}

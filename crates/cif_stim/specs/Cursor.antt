@@ -1,5 +1,5 @@
 -- What a cursor over the lines of a stimulus keeps, from cycle to cycle.
-use Rattle.std.specs.Prelude.{ℕ, ◌+◌, ◌<◌, ◌≤◌, ◌≡◌, nat_lt, Bool, false, List, map, length, get_or, slice_set, drop, Option, Some, None}
+use Rattle.std.specs.Prelude.{ℕ, ◌<◌, ◌≤◌, ◌≡◌, nat_lt, Bool, false, List, map, length, get_or, slice_set, drop, Option, Some, None}
 use Rattle.cif_defs.specs.Netlist.{Netlist, no_wire}
 use Rattle.cif_defs.specs.declared.nets.Wire.{Wire}
 use Rattle.cif_defs.specs.Stimulus.{Stimulus as StimulusData, StimLine as LineData, TaintedWord, unset, held_by, reg_line, mem_line, release_line, cycle_line, set_line}

@@ -1,5 +1,5 @@
 -- Words that lines give, by the numbers of the lines.
-use Rattle.std.specs.Prelude.{ℕ, ◌≡◌, List, [], get_or, Option, Some, None}
+use Rattle.std.specs.Prelude.{ℕ, ◌≡◌, List, get_or, Option, Some, None}
 use Rattle.cif_defs.specs.Words.{bit}
 use Rattle.cif_defs.specs.Stimulus.{TaintedWord, StimLine as LineData, unset, started_by}
 use Rattle.cif_defs.specs.Cells.{Cell}

@@ -1,5 +1,5 @@
 -- The lines of a stimulus as the definitions have them.
-use Rattle.std.specs.Prelude.{ℕ, ◌≡◌, ◌++◌, ◌∷◌, [], Bool, true, false, List}
+use Rattle.std.specs.Prelude.{◌≡◌, ◌++◌, ◌∷◌, [], Bool, true, false}
 use Rattle.cif_defs.specs.Words.{Word}
 use Rattle.cif_defs.specs.Stimulus.{Stimulus as StimulusData, TaintedWord, StimLine as LineData, reg_line, mem_line, release_line, cycle_line, set_line}
 use Rattle.cif_stim.specs.declared.line.StimLine.{StimLine}

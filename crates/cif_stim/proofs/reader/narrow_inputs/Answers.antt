@@ -1,4 +1,4 @@
-use Rattle.std.proofs.Common.{◌≤◌, ℕ, List, sym, subst, length, get_or}
+use Rattle.std.proofs.Common.{◌≤◌, List, sym, subst, length, get_or}
 use Rattle.cif_defs.specs.Netlist.{no_wire}
 use Rattle.cif_defs.specs.declared.nets.Wire.{Wire}
 use Rattle.cif_stim.proofs.Narrow.{narrow}

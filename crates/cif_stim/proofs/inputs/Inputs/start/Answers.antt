@@ -1,4 +1,4 @@
-use Rattle.std.proofs.Common.{arith, sym, ap, ◌∙◌, length, List, ℕ, Option}
+use Rattle.std.proofs.Common.{arith, ap, ◌∙◌, length, List, ℕ, Option}
 use Rattle.std.proofs.lemmas.List.{length-replicate, with_items_is}
 use Rattle.cif_defs.specs.Accepted.{netlist_of}
 use Rattle.cif_defs.specs.declared.nets.Wire.{Wire}

@@ -1,6 +1,5 @@
 use Rattle.std.proofs.Common.{sym, ap, ◌∙◌, refl}
 use Rattle.std.proofs.lemmas.Result.{err_from_is_err_and}
-use Rattle.cif_defs.specs.Accepted.{netlist_of}
 use Rattle.cif_defs.specs.StimulusText.{is_bit_word}
 use Rattle.cif_stim.specs.Reading.{taint_fits, taint_word}
 use Rattle.cif_stim.proofs.Sets.{set_none, set_closed, set_bad_value, set_bad_taint, set_some, may_is, mark_is, place_inside, added_set, marks_added, refuses_by}
