@@ -368,10 +368,10 @@ by_role_read : (c q : ℕ) (role : Role) (cell : RawCell) (k : Kind) (j x : ℕ)
 by_role_read c q role cell k j x e z h =
     let w : j ≡ 0 + j = omega arith in
     rw e (driven_as (driven_from (λ i. Read q (i / word_width cell) (i % word_width cell)) 0 (output_bits cell)) x (Read q ((0 + j) / word_width cell) ((0 + j) % word_width cell)) (Read c (j / word_width cell) (j % word_width cell))
-        (ap (λ (a : ℕ). Read a (j / word_width cell) (j % word_width cell)) z ∙ ap (λ (a : ℕ). Read q (a / word_width cell) (a % word_width cell)) w)
-        (Has-driven_from (λ i. Read q (i / word_width cell) (i % word_width cell)) 0 (output_bits cell) j x h))
+    (ap (λ (a : ℕ). Read a (j / word_width cell) (j % word_width cell)) z ∙ ap (λ (a : ℕ). Read q (a / word_width cell) (a % word_width cell)) w)
+    (Has-driven_from (λ i. Read q (i / word_width cell) (i % word_width cell)) 0 (output_bits cell) j x h))
 
 pub driven_by_read : (raw : Raw) (c q i x : ℕ) → ReadOf raw c q i x → Has (driven raw) (x, Read c q i)
 driven_by_read raw c q i x o =
     driven_as (driven raw) x (Read c (o.place / word_width o.cell) (o.place % word_width o.cell)) (Read c q i) (ap (λ (a : ℕ). Read c a i) o.port ∙ ap (Read c (o.place / word_width o.cell)) o.index)
-        (driven_by_cell raw c o.cell o.kind x (Read c (o.place / word_width o.cell) (o.place % word_width o.cell)) o.is (by_role_read c (0 + c) (role_of o.kind) o.cell o.kind o.place x o.role (omega arith) o.at_bit))
+    (driven_by_cell raw c o.cell o.kind x (Read c (o.place / word_width o.cell) (o.place % word_width o.cell)) o.is (by_role_read c (0 + c) (role_of o.kind) o.cell o.kind o.place x o.role (omega arith) o.at_bit))

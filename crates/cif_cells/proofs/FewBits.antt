@@ -74,8 +74,8 @@ few_in_known cell k r h has =
     let four = first_passes missing (first_fault (wrong_width cell) (ports_of k)) five in
     let three = first_passes wide (first_fault (missing_port cell) (ports_of k)) four in
     few_in_row cell k r
-        (each_passes (too_wide cell k) (ports_of k) r (next_passes zeros (first_fault (too_wide cell k) (ports_of k)) three) has)
-        (each_passes (wrong_width cell) (ports_of k) r (next_passes missing (first_fault (wrong_width cell) (ports_of k)) five) has)
+    (each_passes (too_wide cell k) (ports_of k) r (next_passes zeros (first_fault (too_wide cell k) (ports_of k)) three) has)
+    (each_passes (wrong_width cell) (ports_of k) r (next_passes missing (first_fault (wrong_width cell) (ports_of k)) five) has)
 
 built_passes : (cell : RawCell) (k : Kind) (b : Bool) → (if b then known_cell_fault cell k else Some (UnsupportedCell cell.name cell.kind)) ≡ None → known_cell_fault cell k ≡ None
 built_passes cell k true h = h
@@ -117,7 +117,6 @@ few_outputs _ = lit≤ tt
 
 pub memory_has_width : (cell : RawCell) (k : Kind) → cell_fault cell ≡ None → kind_of cell.kind ≡ Some k → role_of k ≡ MemoryBlock → 0 < number_or_0 cell Width
 memory_has_width cell k h e r = (let ne : number_or_0 cell Width ≢ 0 = has_width cell (known_memory cell k r (known_passes cell k h e)) in omega arith)
-
 
 pub all_cells_pass : (raw : Raw) → cells_fault raw ≡ None → All (λ c. cell_fault c ≡ None) raw.cells
 unfolding cells_fault

@@ -49,7 +49,7 @@ grows : (seen nets : List ℕ) (x : ℕ) → Has nets x → (Has seen x → ⊥)
 grows seen nets x h n =
     let one : length (rising (x ∷ seen)) ≡ suc (length (rising seen)) = length-put_in x (rising seen) (λ k. n (Has-from_rising seen x k)) in
     let all : length (rising (x ∷ seen)) ≤ length (rising (nets ++ seen)) = rising_subset (rising (x ∷ seen)) (rising (nets ++ seen)) (IsRising-rising (x ∷ seen)) (IsRising-rising (nets ++ seen))
-        (λ z k. Has-rising (nets ++ seen) z (elim (Has-from_rising (x ∷ seen) z k) [ inl e ↦ Has-left nets seen z (rw (← e) h) | inr a ↦ Has-right nets seen z a ])) in
+    (λ z k. Has-rising (nets ++ seen) z (elim (Has-from_rising (x ∷ seen) z k) [ inl e ↦ Has-left nets seen z (rw (← e) h) | inr a ↦ Has-right nets seen z a ])) in
     omega arith
 
 -- ---- one port
@@ -133,7 +133,7 @@ unfolding ports_fault net_numbers
 few_inputs raw h =
     let n = counted [] raw.ports h in
     let m : length (rising (all_seen [] raw.ports)) ≤ length (rising (numbers_held raw)) = rising_subset (rising (all_seen [] raw.ports)) (rising (numbers_held raw)) (IsRising-rising (all_seen [] raw.ports)) (IsRising-rising (numbers_held raw))
-        (λ x k. Has-rising (numbers_held raw) x (Has-left (flat_map (λ (p : RawPort). nets_in p.bits) raw.ports) (flat_map (λ (c : RawCell). nets_in (operand_bits c) ++ nets_in (output_bits c) ++ nets_in (clock_bits c)) raw.cells) x (none_seen raw.ports x (Has-from_rising (all_seen [] raw.ports) x k)))) in
+    (λ x k. Has-rising (numbers_held raw) x (Has-left (flat_map (λ (p : RawPort). nets_in p.bits) raw.ports) (flat_map (λ (c : RawCell). nets_in (operand_bits c) ++ nets_in (output_bits c) ++ nets_in (clock_bits c)) raw.cells) x (none_seen raw.ports x (Has-from_rising (all_seen [] raw.ports) x k)))) in
     omega arith
 
 few_from : (seen : List ℕ) (ps : List RawPort) → ports_fault_from seen ps ≡ None → (i : ℕ) (d : RawPort) → i < length ps → length (get_or ps i d).bits ≤ 4096

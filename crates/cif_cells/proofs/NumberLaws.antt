@@ -31,7 +31,7 @@ rows_step c rows i d bits old new h e n =
     ap (λ (ns : List ℕ). ns ++ nets_in (flat_map (port_bits c) (drop (i + 1) rows))) (n ∙ ap (λ (bs : List RawBit). old ++ nets_in bs) e)
     ∙ append_assoc old (nets_in (port_bits c (get_or rows i d))) (nets_in (flat_map (port_bits c) (drop (i + 1) rows)))
     ∙ ap (λ (ns : List ℕ). old ++ ns) (sym (at_drop_more (λ (rs : List PortRow). nets_in (flat_map (port_bits c) rs)) rows i d h
-        ∙ nets_in-append (port_bits c (get_or rows i d)) (flat_map (port_bits c) (drop (i + 1) rows))))
+    ∙ nets_in-append (port_bits c (get_or rows i d)) (flat_map (port_bits c) (drop (i + 1) rows))))
 
 three_pushed : (old one two three a b c : List ℕ) → one ≡ old ++ a → two ≡ one ++ b → three ≡ two ++ c → three ≡ old ++ (a ++ b ++ c)
 three_pushed old one two three a b c p q r =
@@ -47,16 +47,16 @@ pub cell_pushed : (c : RawCell) (text : List ℕ) (k : Kind) (xs ys zs : List Po
     → three ≡ old ++ (nets_in (operand_bits c) ++ nets_in (output_bits c) ++ nets_in (clock_bits c))
 cell_pushed c text k xs ys zs old one two three e t x y z p q r =
     three_pushed old one two three (nets_in (operand_bits c)) (nets_in (output_bits c)) (nets_in (clock_bits c))
-        (p ∙ ap (λ (ns : List ℕ). old ++ ns) (nets_of_kind c text k operands_of xs e t x))
-        (q ∙ ap (λ (ns : List ℕ). one ++ ns) (nets_of_kind c text k outputs_of ys e t y))
-        (r ∙ ap (λ (ns : List ℕ). two ++ ns) (nets_of_kind c text k clocks_of zs e t z))
+    (p ∙ ap (λ (ns : List ℕ). old ++ ns) (nets_of_kind c text k operands_of xs e t x))
+    (q ∙ ap (λ (ns : List ℕ). one ++ ns) (nets_of_kind c text k outputs_of ys e t y))
+    (r ∙ ap (λ (ns : List ℕ). two ++ ns) (nets_of_kind c text k clocks_of zs e t z))
 
 pub both_pushed : (raw : Raw) (old one two : List ℕ) (ports : List RawPort) (cells : List RawCell) → old ≡ [] → ports ≡ raw.ports → one ≡ old ++ flat_map (λ (p : RawPort). nets_in p.bits) ports → cells ≡ raw.cells
     → two ≡ one ++ flat_map (λ (c : RawCell). nets_in (operand_bits c) ++ nets_in (output_bits c) ++ nets_in (clock_bits c)) cells → two ≡ numbers_held raw
 both_pushed raw old one two ports cells a p b c d =
     d ∙ ap (λ (cs : List RawCell). one ++ flat_map (λ (c : RawCell). nets_in (operand_bits c) ++ nets_in (output_bits c) ++ nets_in (clock_bits c)) cs) c
     ∙ ap (λ (ns : List ℕ). ns ++ flat_map (λ (c : RawCell). nets_in (operand_bits c) ++ nets_in (output_bits c) ++ nets_in (clock_bits c)) raw.cells)
-        (b ∙ ap (λ (ns : List ℕ). ns ++ flat_map (λ (p : RawPort). nets_in p.bits) ports) a ∙ ap (flat_map (λ (p : RawPort). nets_in p.bits)) p)
+    (b ∙ ap (λ (ns : List ℕ). ns ++ flat_map (λ (p : RawPort). nets_in p.bits) ports) a ∙ ap (flat_map (λ (p : RawPort). nets_in p.bits)) p)
 
 -- ---- sorted
 
@@ -92,8 +92,8 @@ pub sorted_numbers : (xs ys zs : List ℕ) → IsPermutation xs ys → IsSorted 
 sorted_numbers xs ys zs p s f =
     let e : zs ≡ dedup eqb ys = dedup_is eqb ys zs f in
     e ∙ same_rising (dedup eqb ys) (rising xs) (IsRising-increasing (dedup eqb ys) (IsStrictlyIncreasing-dedup ys s)) (IsRising-rising xs)
-        (λ x h. Has-rising xs x (Has-contains xs x (Contains-permutation ys xs x (IsPermutation-sym xs ys p) (Contains-from_dedup eqb ys x (Contains-has (dedup eqb ys) x h)))))
-        (λ x h. Has-contains (dedup eqb ys) x (Contains-dedup_nat ys x (Contains-permutation xs ys x p (Contains-has xs x (Has-from_rising xs x h)))))
+    (λ x h. Has-rising xs x (Has-contains xs x (Contains-permutation ys xs x (IsPermutation-sym xs ys p) (Contains-from_dedup eqb ys x (Contains-has (dedup eqb ys) x h)))))
+    (λ x h. Has-contains (dedup eqb ys) x (Contains-dedup_nat ys x (Contains-permutation xs ys x p (Contains-has xs x (Has-from_rising xs x h)))))
 
 -- ---- found
 

@@ -47,4 +47,4 @@ pub reads_in_parts : (raw read : Raw) (cells : List RawCell) (ports : List RawPo
 unfolding reads_fault
 reads_in_parts raw read cells ports r c p =
     sym (ap (λ (cs : List RawCell). first_fault (cell_reads raw) cs else_by first_fault (shown_fault raw) (filter is_output ports)) (c ∙ ap (λ (x : Raw). x.cells) r)
-        ∙ ap (λ (ps : List RawPort). first_fault (cell_reads raw) raw.cells else_by first_fault (shown_fault raw) (filter is_output ps)) (p ∙ ap (λ (x : Raw). x.ports) r))
+    ∙ ap (λ (ps : List RawPort). first_fault (cell_reads raw) raw.cells else_by first_fault (shown_fault raw) (filter is_output ps)) (p ∙ ap (λ (x : Raw). x.ports) r))

@@ -39,7 +39,7 @@ put_in_rising x [] h = (tt, tt)
 put_in_rising x (y ∷ ys) h = cond_both (ltb x y) (x ∷ y ∷ ys) (cond (eqb x y) (y ∷ ys) (y ∷ put_in x ys)) IsRising
     (λ l. ((ltb-true x y l, IsBelowAll-below x y ys (ltb-true x y l) h.0), h))
     (λ l. cond_both (eqb x y) (y ∷ ys) (y ∷ put_in x ys) IsRising (λ _. h)
-        (λ n. (put_in_below y x ys (let a : y ≤ x = ltb-false x y l in let b : (x ≡ y) → ⊥ = eqb-false x y n in omega arith) h.0, put_in_rising x ys h.1)))
+    (λ n. (put_in_below y x ys (let a : y ≤ x = ltb-false x y l in let b : (x ≡ y) → ⊥ = eqb-false x y n in omega arith) h.0, put_in_rising x ys h.1)))
 
 pub IsRising-rising : (xs : List ℕ) → IsRising (rising xs)
 IsRising-rising [] = tt

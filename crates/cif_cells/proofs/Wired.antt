@@ -58,7 +58,7 @@ output_is_number raw c p i x cell k is b =
     let outputs : Has (nets_in (output_bits cell)) x = rw is.is_kind here in
     let all : Has (nets_in (operand_bits cell) ++ nets_in (output_bits cell) ++ nets_in (clock_bits cell)) x = Has-left (nets_in (operand_bits cell) ++ nets_in (output_bits cell)) (nets_in (clock_bits cell)) x (Has-right (nets_in (operand_bits cell)) (nets_in (output_bits cell)) x outputs) in
     Has-rising (numbers_held raw) x (Has-right (flat_map (λ (p : RawPort). nets_in p.bits) raw.ports) (flat_map (λ (c : RawCell). nets_in (operand_bits c) ++ nets_in (output_bits c) ++ nets_in (clock_bits c)) raw.cells) x
-        (Has-flat_map (λ (c : RawCell). nets_in (operand_bits c) ++ nets_in (output_bits c) ++ nets_in (clock_bits c)) raw.cells c cell x is.at_cell all))
+    (Has-flat_map (λ (c : RawCell). nets_in (operand_bits c) ++ nets_in (output_bits c) ++ nets_in (clock_bits c)) raw.cells c cell x is.at_cell all))
 
 -- ---- cells
 
@@ -272,14 +272,14 @@ output_drives : (raw : Raw) (c p i b : ℕ) → Passed raw → role_at (netlist_
 output_drives raw c p i b s e h =
     let o = output_is raw c p i b h in
     is_driver raw b o.number (Output c p i) s (output_is_number raw c p i o.number o.cell o.kind o.is o.bit) o.place (λ q a. absurd (cc))
-        (driven_by_output raw c p i o.number (record { cell = o.cell; kind = o.kind; is = o.is; role = sym (role_is raw c o.cell o.kind o.is) ∙ e; bit = o.bit }))
+    (driven_by_output raw c p i o.number (record { cell = o.cell; kind = o.kind; is = o.is; role = sym (role_is raw c o.cell o.kind o.is) ∙ e; bit = o.bit }))
 
 register_drives : (raw : Raw) (c i b : ℕ) → Passed raw → (role_at (netlist_of raw) c ≡ PlainRegister) ⊎ (role_at (netlist_of raw) c ≡ ResetRegister) → output_at (cell_at (netlist_of raw) c) 0 i ≡ Some b → driver_of (netlist_of raw) b ≡ Register c i
 register_drives raw c i b s e h =
     let o = output_is raw c 0 i b h in
     let role : (role_of o.kind ≡ PlainRegister) ⊎ (role_of o.kind ≡ ResetRegister) = elim e [ inl a ↦ inl (sym (role_is raw c o.cell o.kind o.is) ∙ a) | inr a ↦ inr (sym (role_is raw c o.cell o.kind o.is) ∙ a) ] in
     is_driver raw b o.number (Register c i) s (output_is_number raw c 0 i o.number o.cell o.kind o.is o.bit) o.place (λ q a. absurd (cc))
-        (driven_by_register raw c i o.number (record { cell = o.cell; kind = o.kind; is = o.is; role = role; at_bit = bit_kept raw c i o.number o.cell o.kind o.is (register_kept o.kind role) o.bit }))
+    (driven_by_register raw c i o.number (record { cell = o.cell; kind = o.kind; is = o.is; role = role; at_bit = bit_kept raw c i o.number o.cell o.kind o.is (register_kept o.kind role) o.bit }))
 
 read_drives : (raw : Raw) (c q i b : ℕ) → Passed raw → role_at (netlist_of raw) c ≡ MemoryBlock → i < width (cell_at (netlist_of raw) c) → output_at (cell_at (netlist_of raw) c) 0 (q * width (cell_at (netlist_of raw) c) + i) ≡ Some b → driver_of (netlist_of raw) b ≡ Read c q i
 read_drives raw c q i b s e l h =
@@ -291,16 +291,16 @@ read_drives raw c q i b s e l h =
     let inside : i < word_width o.cell = omega arith in
     let place : j ≡ q * word_width o.cell + i = ap (λ (w : ℕ). q * w + i) wide in
     is_driver raw b o.number (Read c q i) s (output_is_number raw c 0 j o.number o.cell o.kind o.is o.bit) o.place (λ p a. absurd (cc))
-        (driven_by_read raw c q i o.number (record {
-          cell = o.cell;
-          kind = o.kind;
-          is = o.is;
-          role = role;
-          place = j;
-          port = sym (ap (λ (k : ℕ). k / word_width o.cell) place ∙ div-mul-add q (word_width o.cell) i inside);
-          index = sym (ap (λ (k : ℕ). k % word_width o.cell) place ∙ mod-mul-add q (word_width o.cell) i inside);
-          at_bit = bit_kept raw c j o.number o.cell o.kind o.is (ap is_kept role) o.bit;
-        }))
+    (driven_by_read raw c q i o.number (record {
+      cell = o.cell;
+      kind = o.kind;
+      is = o.is;
+      role = role;
+      place = j;
+      port = sym (ap (λ (k : ℕ). k / word_width o.cell) place ∙ div-mul-add q (word_width o.cell) i inside);
+      index = sym (ap (λ (k : ℕ). k % word_width o.cell) place ∙ mod-mul-add q (word_width o.cell) i inside);
+      at_bit = bit_kept raw c j o.number o.cell o.kind o.is (ap is_kept role) o.bit;
+    }))
 
 pub wired : (raw : Raw) → IsAccepted raw → IsWired (netlist_of raw)
 wired raw h = (let s = passed raw h in record {

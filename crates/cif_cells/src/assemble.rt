@@ -16,8 +16,7 @@ use crate::raw_access::{
 };
 use crate::table;
 use cif_defs::{
-    Kind, Listed, Name, NetBit, Param, ParamValue, PortRow, RawBit, RawCell, RawPort,
-    Src, Wire,
+    Kind, Listed, Name, NetBit, Param, ParamValue, PortRow, RawBit, RawCell, RawPort, Src, Wire,
 };
 use std::alloc::{AllocError, Global};
 

@@ -112,7 +112,13 @@ struct Wanted {
 }
 
 /// Checks a use of the clock.
-fn check_use(alloc: Global, ports: &[RawPort], wanted: Wanted, cell: &RawCell, used: ClockEdge) -> Result<(), BuildFault>
+fn check_use(
+    alloc: Global,
+    ports: &[RawPort],
+    wanted: Wanted,
+    cell: &RawCell,
+    used: ClockEdge,
+) -> Result<(), BuildFault>
     requires { wanted.is_input ≡ is_clock_input_of ports.now wanted.edge.bit }
     ensures ok { IsOk result → edge_fault ports.now wanted.edge (record { user = cell.now; bit = used.bit; polarity = used.polarity }) ≡ None }
     ensures err { IfErr result (λ e. IsFirst (edge_fault ports.now wanted.edge (record { user = cell.now; bit = used.bit; polarity = used.polarity })) e) }
@@ -133,7 +139,14 @@ fn check_use(alloc: Global, ports: &[RawPort], wanted: Wanted, cell: &RawCell, u
 }
 
 /// Checks the uses of the clock at some clock ports of a cell.
-fn check_bits(alloc: Global, ports: &[RawPort], wanted: Wanted, cell: &RawCell, role: Role, bits: &[RawBit]) -> Result<(), BuildFault>
+fn check_bits(
+    alloc: Global,
+    ports: &[RawPort],
+    wanted: Wanted,
+    cell: &RawCell,
+    role: Role,
+    bits: &[RawBit],
+) -> Result<(), BuildFault>
     requires { wanted.is_input ≡ is_clock_input_of ports.now wanted.edge.bit }
     ensures ok { IsOk result → first_fault (edge_fault ports.now wanted.edge) (uses_from cell.now role 0 bits.now) ≡ None }
     ensures err { IfErr result (λ e. IsFirst (first_fault (edge_fault ports.now wanted.edge) (uses_from cell.now role 0 bits.now)) e) }
@@ -149,7 +162,12 @@ fn check_bits(alloc: Global, ports: &[RawPort], wanted: Wanted, cell: &RawCell, 
 }
 
 /// Checks the uses of the clock in a cell.
-fn check_cell(alloc: Global, ports: &[RawPort], wanted: Wanted, cell: &RawCell) -> Result<(), BuildFault>
+fn check_cell(
+    alloc: Global,
+    ports: &[RawPort],
+    wanted: Wanted,
+    cell: &RawCell,
+) -> Result<(), BuildFault>
     requires { wanted.is_input ≡ is_clock_input_of ports.now wanted.edge.bit }
     ensures ok { IsOk result → first_fault (edge_fault ports.now wanted.edge) (uses_of cell.now) ≡ None }
     ensures err { IfErr result (λ e. IsFirst (first_fault (edge_fault ports.now wanted.edge) (uses_of cell.now)) e) }
@@ -164,7 +182,12 @@ fn check_cell(alloc: Global, ports: &[RawPort], wanted: Wanted, cell: &RawCell) 
 }
 
 /// Checks the uses of the clock in all cells.
-fn check_cells(alloc: Global, ports: &[RawPort], wanted: Wanted, cells: &[RawCell]) -> Result<(), BuildFault>
+fn check_cells(
+    alloc: Global,
+    ports: &[RawPort],
+    wanted: Wanted,
+    cells: &[RawCell],
+) -> Result<(), BuildFault>
     requires { wanted.is_input ≡ is_clock_input_of ports.now wanted.edge.bit }
     ensures ok { IsOk result → first_fault (edge_fault ports.now wanted.edge) (flat_map uses_of cells.now) ≡ None }
     ensures err { IfErr result (λ e. IsFirst (first_fault (edge_fault ports.now wanted.edge) (flat_map uses_of cells.now)) e) }

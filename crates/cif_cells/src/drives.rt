@@ -96,7 +96,13 @@ fn record_bits(numbers: &[u64], drives: &mut [DrivenBy], origin: Origin, bits: &
 }
 
 /// Records what the outputs of a combinational cell drive.
-fn record_rows(numbers: &[u64], drives: &mut [DrivenBy], index: u32, cell: &RawCell, rows: &[PortRow])
+fn record_rows(
+    numbers: &[u64],
+    drives: &mut [DrivenBy],
+    index: u32,
+    cell: &RawCell,
+    rows: &[PortRow],
+)
     requires rising { IsStrictlyIncreasing numbers.now }
     requires same { length drives.old ≡ length numbers.now }
     requires few { All (λ r. length (bits_of_port cell.now r) ≤ 65536) rows.now }

@@ -68,7 +68,12 @@ fn first_bad(nets: &Nets, bits: &[RawBit]) -> Option<BadBit>
 
 /// Checks the bits of an operand of a cell.
 #[tactic(auto, using(crate::proofs::ReadLaws::reads_are))]
-fn check_operand(alloc: Global, nets: &Nets, cell: &RawCell, row: &PortRow) -> Result<(), BuildFault>
+fn check_operand(
+    alloc: Global,
+    nets: &Nets,
+    cell: &RawCell,
+    row: &PortRow,
+) -> Result<(), BuildFault>
     requires { length (bits_of_port cell.now row.now) ≤ 65536 }
     ensures ok { IsOk result → operand_fault nets.now cell.now row.now ≡ None }
     ensures err { IfErr result (λ e. IsFirst (operand_fault nets.now cell.now row.now) e) }
@@ -80,7 +85,12 @@ fn check_operand(alloc: Global, nets: &Nets, cell: &RawCell, row: &PortRow) -> R
 }
 
 /// Checks the bits of some operands of a cell.
-fn check_operands(alloc: Global, nets: &Nets, cell: &RawCell, rows: &[PortRow]) -> Result<(), BuildFault>
+fn check_operands(
+    alloc: Global,
+    nets: &Nets,
+    cell: &RawCell,
+    rows: &[PortRow],
+) -> Result<(), BuildFault>
     requires { All (λ r. length (bits_of_port cell.now r) ≤ 65536) rows.now }
     ensures ok { IsOk result → first_fault (operand_fault nets.now cell.now) rows.now ≡ None }
     ensures err { IfErr result (λ e. IsFirst (first_fault (operand_fault nets.now cell.now) rows.now) e) }

@@ -14,13 +14,13 @@ pub returns-in_err-check_operands-clause-err : goal.returns-in_err-check_operand
 returns-in_err-check_operands-clause-err c =
     let p = err_from_is_err_and c.from_residual.result c.from_residual.ensures.1 in
     rw (p.1, p.2) (IsFirst-left (first_fault (operand_fault c.args.number) c.args.raw.now.cells) (first_fault (port_fault c.args.number) (filter is_output c.args.raw.now.ports)) _
-        (IsFirst-same (first_fault (operand_fault c.args.number) c.items.result.now) (first_fault (operand_fault c.args.number) c.args.raw.now.cells) _ (ap (first_fault (operand_fault c.args.number)) c.items.ensures) c.in_err-check_operands.ensures.err))
+    (IsFirst-same (first_fault (operand_fault c.args.number) c.items.result.now) (first_fault (operand_fault c.args.number) c.args.raw.now.cells) _ (ap (first_fault (operand_fault c.args.number)) c.items.ensures) c.in_err-check_operands.ensures.err))
 
 pub returns-clause-ok : goal.returns-clause-ok
 returns-clause-ok c h =
     both_pass (first_fault (operand_fault c.args.number) c.args.raw.now.cells) (first_fault (port_fault c.args.number) (filter is_output c.args.raw.now.ports))
-        (sym (ap (first_fault (operand_fault c.args.number)) c.items.ensures) ∙ c.in_ok-check_operands.ensures.ok refl)
-        (sym (ap (λ (ps : List RawPort). first_fault (port_fault c.args.number) (filter is_output ps)) c.items-2.ensures) ∙ c.check_outputs.ensures.ok h)
+    (sym (ap (first_fault (operand_fault c.args.number)) c.items.ensures) ∙ c.in_ok-check_operands.ensures.ok refl)
+    (sym (ap (λ (ps : List RawPort). first_fault (port_fault c.args.number) (filter is_output ps)) c.items-2.ensures) ∙ c.check_outputs.ensures.ok h)
 
 pub returns-clause-err : goal.returns-clause-err
 returns-clause-err c =

@@ -31,4 +31,4 @@ record_cells-requires-clause-passed c =
 pub returns : goal.returns
 returns c =
     all_driven c.args.raw.now c.args.numbers.now c.in_ok-drives.drives.items c.deref_mut.result.now c.record_inputs.new.drives c.deref_mut-2.result.now c.record_cells.new.drives c.in_ok-drives.drives.len c.items.result.now c.items-2.result.now
-        (c.in_ok-drives.ensures.items_if_clones_equal (λ y h. h)) c.in_ok-drives.drives.ok.0 c.deref_mut.ensures.value c.items.ensures c.record_inputs.ensures c.deref_mut-2.ensures.value c.items-2.ensures c.record_cells.ensures
+    (c.in_ok-drives.ensures.items_if_clones_equal (λ y h. h)) c.in_ok-drives.drives.ok.0 c.deref_mut.ensures.value c.items.ensures c.record_inputs.ensures c.deref_mut-2.ensures.value c.items-2.ensures c.record_cells.ensures

@@ -27,14 +27,14 @@ pub returns-in_err-check_cells-clause-err : goal.returns-in_err-check_cells-clau
 returns-in_err-check_cells-clause-err c =
     let p = err_from_is_err_and c.from_residual.result c.from_residual.ensures.1 in
     rw (p.1, p.2) (joined_first _ (first_fault (cell_reads c.args.nets.now) c.items.result.now) (first_fault (shown_fault c.args.nets.now) (filter is_output c.raw-raw.result.now.ports)) _
-        (reads_in_parts c.args.nets.now c.raw-raw.result.now c.items.result.now c.raw-raw.result.now.ports c.raw-raw.ensures.is c.items.ensures refl) c.in_err-check_cells.ensures.err)
+    (reads_in_parts c.args.nets.now c.raw-raw.result.now c.items.result.now c.raw-raw.result.now.ports c.raw-raw.ensures.is c.items.ensures refl) c.in_err-check_cells.ensures.err)
 
 pub returns-clause-ok : goal.returns-clause-ok
 returns-clause-ok c h =
     joined_ok _ (first_fault (cell_reads c.args.nets.now) c.items.result.now) (first_fault (shown_fault c.args.nets.now) (filter is_output c.items-2.result.now))
-        (reads_in_parts c.args.nets.now c.raw-raw.result.now c.items.result.now c.items-2.result.now c.raw-raw.ensures.is c.items.ensures c.items-2.ensures) (c.in_ok-check_cells.ensures.ok refl) (c.check_ports.ensures.ok h)
+    (reads_in_parts c.args.nets.now c.raw-raw.result.now c.items.result.now c.items-2.result.now c.raw-raw.ensures.is c.items.ensures c.items-2.ensures) (c.in_ok-check_cells.ensures.ok refl) (c.check_ports.ensures.ok h)
 
 pub returns-clause-err : goal.returns-clause-err
 returns-clause-err c =
     joined_next _ (first_fault (cell_reads c.args.nets.now) c.items.result.now) (first_fault (shown_fault c.args.nets.now) (filter is_output c.items-2.result.now)) c.check_ports.result
-        (reads_in_parts c.args.nets.now c.raw-raw.result.now c.items.result.now c.items-2.result.now c.raw-raw.ensures.is c.items.ensures c.items-2.ensures) (c.in_ok-check_cells.ensures.ok refl) c.check_ports.ensures.err
+    (reads_in_parts c.args.nets.now c.raw-raw.result.now c.items.result.now c.items-2.result.now c.raw-raw.ensures.is c.items.ensures c.items-2.ensures) (c.in_ok-check_cells.ensures.ok refl) c.check_ports.ensures.err
