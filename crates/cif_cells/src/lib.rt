@@ -17,6 +17,7 @@ mod parameters;
 mod ports;
 mod raw_access;
 mod reads;
+mod state;
 pub mod table;
 
 pub use cell::{Cell, Digits, Given, Sources, Targets};

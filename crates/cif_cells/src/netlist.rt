@@ -1,6 +1,8 @@
 // Accepted netlists.
 ghost use Rattle.std.specs.Prelude.{◌≡◌, ◌<◌, ◌≤◌, length, get_or, map, [], IfOk};
+ghost use Rattle.std.specs.List.{sum_by};
 ghost use Rattle.cif_defs.specs.Words.{bit};
+ghost use Rattle.cif_defs.specs.Cells.{state_bits as state_bits_of};
 ghost use Rattle.cif_defs.specs.Accepted.{netlist_of};
 ghost use Rattle.cif_defs.specs.Netlist.{driver_of, IsWired};
 ghost use Rattle.cif_defs.specs.RawModule.{net_numbers};
@@ -12,6 +14,7 @@ use crate::cell::Cell;
 use crate::drivers::drivers_of;
 use crate::inits::{InitBit, initial_words};
 use crate::nets::Nets;
+use crate::state::total_bits;
 use cif_defs::{Driver, Listed, NetBit, Raw, Wire};
 use std::alloc::{AllocError, Global};
 use std::marker::Model;
@@ -125,5 +128,12 @@ impl Netlist {
         let word = &self.initial[cell as usize];
         let bits = word.items();
         index < bits.len() as u64 && bits[index as usize]
+    }
+
+    /// How many bits the registers and memories store together.
+    pub fn state_bits(&self) -> u64
+        ensures { result ≡ sum_by state_bits_of (netlist_of self.now).cells }
+    {
+        total_bits(&self.cells)
     }
 }

@@ -1,0 +1,127 @@
+-- How many bits cells store.
+use Rattle.std.specs.Prelude.{ℕ, zero, suc, ◌+◌, ◌*◌, ◌^◌, ◌<◌, ◌≤◌, ◌≡◌, ◌⊎◌, ◌==◌, nat_lt, Bool, true, false, not, ◌&&◌, List, [], ◌∷◌, length, map, filter, get_or, sum, position, replicate, unwrap_or, option_map, Option, Some, None, refl, if◌then◌else◌}
+use Rattle.std.specs.List.{Contains, cons_option, filter_map, sum_by}
+use Rattle.std.proofs.Common.{arith, rules, lit<, sym, ap, subst, ◌∙◌, cond, inl, inr, lit≤}
+use Rattle.std.proofs.lemmas.Bool.{ltb-false}
+use Rattle.std.proofs.lemmas.List.{length-replicate, get_or-replicate, length-map}
+use Rattle.std.proofs.lemmas.List.Sums.{sum_by-cons, sum-map}
+use Rattle.std.proofs.lemmas.Nat.{mul-lt}
+use denote.Enum.Bare.{same_true}
+use Rattle.cif_defs.specs.contracts.kinds.Param.{the_type}
+use Rattle.cif_defs.specs.Kinds.{is_same_param, role_of}
+use Rattle.cif_defs.specs.Table.{is_mask, is_table, kind_of, parameters_of}
+use Rattle.cif_defs.specs.RawModule.{digits_given, net_numbers, number_given, output_bits}
+use Rattle.cif_defs.specs.Words.{Word, bit, word, zeros}
+use Rattle.cif_defs.specs.Cells.{Cell, number_in, number_of, state_bits, state_bits_by, width}
+use Rattle.cif_defs.specs.Accepted.{cell_by, cell_of, netlist_of, numbers_of}
+use Rattle.cif_defs.specs.Netlist.{no_cell}
+use Rattle.cif_defs.specs.declared.kinds.Kind.{Kind}
+use Rattle.cif_defs.specs.declared.kinds.Role.{Role}
+use Rattle.cif_defs.specs.declared.kinds.Role.TheVariants.{Combinational, PlainRegister, ResetRegister, MemoryBlock, CarriedOver}
+use Rattle.cif_defs.specs.declared.kinds.Param.{Param}
+use Rattle.cif_defs.specs.declared.kinds.Param.TheVariants.{Width, Size, Init}
+use Rattle.cif_defs.specs.declared.raw_module.RawCell.{RawCell}
+use Rattle.cif_defs.specs.declared.raw_module.Raw.{Raw}
+use Rattle.cif_cells.specs.Checks.{◌else_by◌, fault_if, IsAccepted, cells_fault, cell_fault, first_fault, memory_bits_fault, memory_limit, memory_size, memory_size_by, number_or_0}
+use Rattle.cif_cells.specs.declared.fault.BuildFault.TheVariants.{TooManyBits}
+use Rattle.std.proofs.Math.Nat.{mul-le-mul_left, mul-le-mul_right}
+use Rattle.cif_cells.proofs.RawLaws.{number_small}
+use Rattle.cif_cells.proofs.Passed.{next_passes, passed, test_passes}
+
+-- ---- numbers of a cell
+
+found_by : (b : Bool) (c : RawCell) (q p : Param) (o : Option ℕ) (rest : List (Param × ℕ)) → is_same_param q p ≡ b → number_given c q ≡ o → number_in rest p ≤ number_or_0 c p → number_in (cons_option (option_map (λ x. (q, x)) o) rest) p ≤ number_or_0 c p
+found_by b c q p None rest e g h = h
+found_by true c q p (Some x) rest e g h =
+    let same : q ≡ p = same_true the_type (search rules) q p e in
+    let here : number_in ((q, x) ∷ rest) p ≡ x = ap (λ t. cond t x (number_in rest p)) e in
+    let given : number_or_0 c p ≡ x = ap (number_or_0 c) (sym same) ∙ ap (λ (o : Option ℕ). unwrap_or o 0) g in
+    omega arith
+found_by false c q p (Some x) rest e g h = (let here : number_in ((q, x) ∷ rest) p ≡ number_in rest p = ap (λ t. cond t x (number_in rest p)) e in omega arith)
+
+number_le : (c : RawCell) (ps : List Param) (p : Param) → number_in (filter_map (λ q. option_map (λ x. (q, x)) (number_given c q)) ps) p ≤ number_or_0 c p
+number_le c [] p = omega arith
+number_le c (q ∷ ps) p = found_by (is_same_param q p) c q p (number_given c q) (filter_map (λ q. option_map (λ x. (q, x)) (number_given c q)) ps) refl refl (number_le c ps p)
+
+number_by : (ns : List ℕ) (c : RawCell) (o : Option Kind) (p : Param) → number_of (cell_by ns c o) p ≤ number_or_0 c p
+number_by ns c None p = omega arith
+number_by ns c (Some k) p = number_le c (filter (λ p. not (is_table p) && not (is_mask p)) (parameters_of k)) p
+
+number_of_cell : (ns : List ℕ) (c : RawCell) (p : Param) → number_of (cell_of ns c) p ≤ number_or_0 c p
+unfolding cell_of
+number_of_cell ns c p = number_by ns c (kind_of c.kind) p
+
+-- ---- how many bits a cell stores
+
+abbrev size_as : RawCell → Role → ℕ
+size_as c MemoryBlock = number_or_0 c Size * number_or_0 c Width
+size_as c _ = 0
+
+memory_is : (c : RawCell) (k : Kind) → memory_size_by c (Some k) ≡ size_as c (role_of k)
+memory_is c k = refl
+
+memory_of : (c : RawCell) (k : Kind) → kind_of c.kind ≡ Some k → role_of k ≡ MemoryBlock → memory_size c ≡ number_or_0 c Size * number_or_0 c Width
+memory_of c k e r = ap (memory_size_by c) e ∙ memory_is c k ∙ ap (size_as c) r
+
+-- a cell that isn't carried over has a kind of the table
+kind_by : (ns : List ℕ) (c : RawCell) (o : Option Kind) (role : Role) → (CarriedOver ≡ role → ⊥) → role_of (cell_by ns c o).kind ≡ role → o ≡ Some (cell_by ns c o).kind
+kind_by ns c None role apart h = absurd (apart h)
+kind_by ns c (Some k) role apart h = refl
+
+pub kind_is : (ns : List ℕ) (c : RawCell) (role : Role) → (CarriedOver ≡ role → ⊥) → role_of (cell_of ns c).kind ≡ role → kind_of c.kind ≡ Some (cell_of ns c).kind
+unfolding cell_of
+kind_is ns c role apart h = kind_by ns c (kind_of c.kind) role apart h
+
+product_le : (a b c d : ℕ) → a ≤ b → c ≤ d → a * c ≤ b * d
+product_le a b c d h k = omega (arith, mul-le-mul_right c h, mul-le-mul_left b k)
+
+stored_by : (ns : List ℕ) (c : RawCell) (role : Role) → role_of (cell_of ns c).kind ≡ role → state_bits_by role (cell_of ns c) ≤ 4294967296 + memory_size c
+stored_by ns c PlainRegister e = (let w = number_of_cell ns c Width in let s = number_small c Width in omega arith)
+stored_by ns c ResetRegister e = (let w = number_of_cell ns c Width in let s = number_small c Width in omega arith)
+stored_by ns c MemoryBlock e =
+    let k = kind_is ns c MemoryBlock (λ q. absurd (cc)) e in
+    let m : memory_size c ≡ number_or_0 c Size * number_or_0 c Width = memory_of c (cell_of ns c).kind k e in
+    let l : number_of (cell_of ns c) Size * number_of (cell_of ns c) Width ≤ number_or_0 c Size * number_or_0 c Width = product_le (number_of (cell_of ns c) Size) (number_or_0 c Size) (number_of (cell_of ns c) Width) (number_or_0 c Width) (number_of_cell ns c Size) (number_of_cell ns c Width) in
+    omega arith
+stored_by ns c Combinational e = omega arith
+stored_by ns c CarriedOver e = omega arith
+
+stored_le : (ns : List ℕ) (c : RawCell) → state_bits (cell_of ns c) ≤ 4294967296 + memory_size c
+stored_le ns c = stored_by ns c (role_of (cell_of ns c).kind) refl
+
+total_le : (ns : List ℕ) (cells : List RawCell) → sum_by state_bits (map (cell_of ns) cells) ≤ 4294967296 * length cells + sum_by memory_size cells
+total_le ns [] = omega arith
+total_le ns (c ∷ cs) =
+    let a : sum_by state_bits (map (cell_of ns) (c ∷ cs)) ≡ state_bits (cell_of ns c) + sum_by state_bits (map (cell_of ns) cs) = sum_by-cons state_bits (cell_of ns c) (map (cell_of ns) cs) in
+    let b : sum_by memory_size (c ∷ cs) ≡ memory_size c + sum_by memory_size cs = sum_by-cons memory_size c cs in
+    let h = stored_le ns c in
+    let r = total_le ns cs in
+    let n : 4294967296 * suc (length cs) ≡ 4294967296 + 4294967296 * length cs = omega arith in
+    omega arith
+
+memory_small : (raw : Raw) → cells_fault raw ≡ None → sum_by memory_size raw.cells ≤ 16777216
+unfolding cells_fault
+memory_small raw h =
+    let none : memory_bits_fault raw ≡ None = next_passes (first_fault cell_fault raw.cells) (memory_bits_fault raw) h in
+    let few : sum (map memory_size raw.cells) ≤ 16777216 = ltb-false memory_limit (sum (map memory_size raw.cells)) (test_passes (nat_lt memory_limit (sum (map memory_size raw.cells))) (TooManyBits (sum (map memory_size raw.cells))) none) in
+    let same = sum-map memory_size raw.cells in
+    omega arith
+
+pub total_small : (raw : Raw) (ns : List ℕ) → cells_fault raw ≡ None → length raw.cells ≤ 400000 → sum_by state_bits (map (cell_of ns) raw.cells) < 2 ^ 64
+total_small raw ns h n = (let t = total_le ns raw.cells in let m = memory_small raw h in omega arith)
+
+-- each cell alone
+pub state_small : (ns : List ℕ) (c : RawCell) → state_bits (cell_of ns c) < 2 ^ 64
+state_small ns c = small_by ns c (role_of (cell_of ns c).kind) where
+  small_by : (ns : List ℕ) (c : RawCell) (role : Role) → state_bits_by role (cell_of ns c) < 2 ^ 64
+  small_by ns c PlainRegister = (let w = number_of_cell ns c Width in let s = number_small c Width in omega arith)
+  small_by ns c ResetRegister = (let w = number_of_cell ns c Width in let s = number_small c Width in omega arith)
+  small_by ns c MemoryBlock = (let w = number_of_cell ns c Width in let v = number_of_cell ns c Size in let s = number_small c Width in let t = number_small c Size in
+      let a : number_of (cell_of ns c) Size < 4294967296 = omega arith in let b : number_of (cell_of ns c) Width < 4294967296 = omega arith in
+      mul-lt (number_of (cell_of ns c) Size) (number_of (cell_of ns c) Width) 4294967296 4294967296 a b)
+  small_by ns c Combinational = lit< tt
+  small_by ns c CarriedOver = lit< tt
+
+pub cells_small : (raw : Raw) → IsAccepted raw → length (netlist_of raw).cells ≤ 400000 → sum_by state_bits (netlist_of raw).cells < 2 ^ 64
+unfolding netlist_of
+cells_small raw h few = total_small raw (net_numbers raw) (passed raw h).cells (let e : length (map (cell_of (net_numbers raw)) raw.cells) ≡ length raw.cells = length-map raw.cells (cell_of (net_numbers raw)) in omega arith)
