@@ -1,0 +1,14 @@
+use Rattle.std.proofs.Common.{◌≡◌, ◌≤◌, ℕ, List, length, drop}
+use Rattle.std.specs.Cmp.Lexicographic.{slice_cmp}
+use Rattle.std.specs.Ordering.{nat_cmp}
+use Rattle.std.specs.BTreeMap.{get_by}
+use Rattle.cif_stim.specs.Ports.{place_from}
+use Rattle.cif_stim.proofs.ports.PortTable.of.Given as goal
+
+abbrev pub invariant-loop-place : goal.invariant-loop-place
+invariant-loop-place l = record {
+  inside : l.place ≤ length l.ports;
+  found : (name : List ℕ) → get_by (λ k. slice_cmp nat_cmp name k.now) l.places ≡ place_from l.place (drop l.place l.ports) name }
+
+abbrev pub decreases-loop-place : goal.decreases-loop-place
+decreases-loop-place l = l.place

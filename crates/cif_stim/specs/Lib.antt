@@ -1,0 +1,5 @@
+pub mod LineWords
+pub mod StimulusView
+pub mod Inside
+pub mod Held
+pub mod Ports

@@ -1,0 +1,191 @@
+// A stimulus.
+ghost use Rattle.std.specs.Prelude.{◌≡◌, ◌<◌, ◌++◌, ◌∷◌, [], map, length, IfOk, OnOk, OnErr};
+ghost use Rattle.cif_defs.specs.Words.{bit};
+ghost use Rattle.cif_defs.specs.Accepted.{netlist_of};
+ghost use Rattle.cif_defs.specs.Stimulus.{input_at, start_at, reg_line, mem_line, release_line, cycle_line, set_line};
+ghost use Rattle.cif_stim.specs.StimulusView.{line_seen, tainted, Adds};
+
+use crate::line::{Pair, StimLine};
+use crate::walk::{last_set, set_pair, started_pair, stores};
+use cif_bits::{Bits, NoMemory};
+use cif_cells::Netlist;
+use cif_defs::{Name, Wire};
+use std::alloc::Global;
+use std::marker::Model;
+
+/// What is given to a netlist: what its registers and memories start with, which nets are released, and what its
+/// inputs are set to, cycle by cycle. Contracts see it as its number of cycles and its lines.
+#[derive(Drop)]
+pub struct Stimulus {
+    cycles: u64,
+    lines: Vec<StimLine>,
+    // No register and no memory is named past so many lines.
+    starts: usize,
+}
+
+impl Model for Stimulus {
+    ghost use Rattle.cif_defs.specs.Stimulus.{Stimulus as StimulusData};
+
+    ghost Value = { StimulusData };
+
+    ghost use Rattle.cif_stim.specs.Inside.{stimulus_seen, StartsBefore};
+
+    ghost view = { stimulus_seen };
+
+    ghost invariant = { λ s. StartsBefore s.starts s.lines.items };
+}
+
+impl Stimulus {
+    /// A stimulus of so many cycles, without lines.
+    pub fn new(alloc: Global, cycles: u64) -> Result<Stimulus, NoMemory>
+        ensures { IfOk result (λ s. s ≡ record { cycles = cycles; lines = [] }) }
+    {
+        Ok(Stimulus {
+            cycles,
+            lines: Vec::new(alloc),
+            starts: 0,
+        })
+    }
+
+    /// How many cycles it has.
+    pub fn cycles(&self) -> u64
+        ensures { result ≡ self.now.cycles }
+    {
+        self.cycles
+    }
+
+    /// Its lines after that of the number of cycles, in order.
+    pub fn lines(&self) -> &[StimLine]
+        ensures { map line_seen result.now ≡ self.now.lines }
+    {
+        &self.lines
+    }
+}
+
+/// What it gives to a netlist. Both calls walk over lines.
+impl Stimulus {
+    /// What bit `index` of an input port holds at a cycle; a bit past the port's word is 0.
+    pub fn input(&self, netlist: &Netlist, port: u32, index: u32, cycle: u64) -> Pair
+        requires { port < length (netlist_of netlist.now).inputs }
+        ensures value { result.value
+            ≡ bit (input_at (netlist_of netlist.now) self.now cycle port).value index }
+        ensures taint { result.taint
+            ≡ bit (input_at (netlist_of netlist.now) self.now cycle port).taint index }
+    {
+        let wire = &netlist.inputs()[port as usize];
+        let setter = last_set(&self.lines, wire.name().items(), cycle);
+        set_pair(&self.lines, setter, index)
+    }
+
+    /// What bit `index` of the word of a register or a memory starts with; a bit past the word is 0.
+    pub fn start(&self, netlist: &Netlist, cell: u32, index: u64) -> Pair
+        requires { cell < length (netlist_of netlist.now).cells }
+        ensures value { result.value
+            ≡ bit (start_at (netlist_of netlist.now) self.now cell).value index }
+        ensures taint { result.taint
+            ≡ bit (start_at (netlist_of netlist.now) self.now cell).taint index }
+    {
+        let owner = &netlist.cells()[cell as usize];
+        if !stores(owner, index) {
+            return Pair {
+                value: false,
+                taint: false,
+            };
+        }
+        let given = Pair {
+            value: netlist.initial(cell, index),
+            taint: false,
+        };
+        started_pair(&self.lines[..self.starts], owner, index, given)
+    }
+}
+
+/// Lines, one after another. A call that finds no memory leaves the stimulus as it was.
+impl Stimulus {
+    /// Adds the word with which a register starts.
+    pub fn push_reg(
+        &mut self,
+        _alloc: Global,
+        cell: Name,
+        value: Bits,
+        taint: Bits,
+    ) -> Result<(), NoMemory>
+        ensures ok { OnOk result (Adds self.old self.new (reg_line cell (tainted value taint))) }
+        ensures err { OnErr result (self.new ≡ self.old) }
+    {
+        self.lines.push(StimLine::Reg { cell, value, taint })?;
+        self.starts = self.lines.len();
+        Ok(())
+    }
+
+    /// Adds the word with which a memory starts at an address, which counts from the memory's offset on.
+    pub fn push_mem(
+        &mut self,
+        _alloc: Global,
+        cell: Name,
+        address: u64,
+        value: Bits,
+        taint: Bits,
+    ) -> Result<(), NoMemory>
+        ensures ok { OnOk result
+            (Adds self.old self.new (mem_line cell address (tainted value taint))) }
+        ensures err { OnErr result (self.new ≡ self.old) }
+    {
+        self.lines.push(StimLine::Mem {
+            cell,
+            address,
+            value,
+            taint,
+        })?;
+        self.starts = self.lines.len();
+        Ok(())
+    }
+
+    /// Adds the release of a net.
+    pub fn push_release(
+        &mut self,
+        alloc: Global,
+        name: Name,
+        wire: &Wire,
+    ) -> Result<(), NoMemory>
+        ensures ok { OnOk result (Adds self.old self.new (release_line name wire.now.bits)) }
+        ensures err { OnErr result (self.new ≡ self.old) }
+    {
+        let wire = copied(alloc, wire)?;
+        self.lines.push(StimLine::Release { name, wire })?;
+        Ok(())
+    }
+
+    /// Adds the cycle, counted from 0, of the sets that follow.
+    pub fn push_cycle(&mut self, _alloc: Global, cycle: u64) -> Result<(), NoMemory>
+        ensures ok { OnOk result (Adds self.old self.new (cycle_line cycle)) }
+        ensures err { OnErr result (self.new ≡ self.old) }
+    {
+        self.lines.push(StimLine::Cycle(cycle))?;
+        Ok(())
+    }
+
+    /// Adds the word that an input port holds from the last cycle line on.
+    pub fn push_set(
+        &mut self,
+        _alloc: Global,
+        port: Name,
+        value: Bits,
+        taint: Bits,
+    ) -> Result<(), NoMemory>
+        ensures ok { OnOk result (Adds self.old self.new (set_line port (tainted value taint))) }
+        ensures err { OnErr result (self.new ≡ self.old) }
+    {
+        self.lines.push(StimLine::Set { port, value, taint })?;
+        Ok(())
+    }
+}
+
+/// Another wire of the same name and bits.
+fn copied(alloc: Global, wire: &Wire) -> Result<Wire, NoMemory>
+    ensures { IfOk result (λ w. w ≡ wire.now) }
+{
+    let name = Vec::from_slice(alloc, wire.name().items())?;
+    let bits = Vec::from_slice(alloc, wire.items())?;
+    Ok(Wire::of(Name::of(name), bits))
+}

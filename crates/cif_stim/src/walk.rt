@@ -1,0 +1,124 @@
+// What the lines of a stimulus give to a bit of an input port, and to a bit of a register or a memory.
+ghost use Rattle.std.specs.Prelude.{◌≡◌, ◌<◌, ◌∷◌, [], nat_lt, bytes_eq, map};
+ghost use Rattle.cif_defs.specs.Words.{bit};
+ghost use Rattle.cif_defs.specs.Cells.{state_bits};
+ghost use Rattle.cif_defs.specs.Stimulus.{held_by, unset};
+ghost use Rattle.cif_stim.specs.StimulusView.{line_seen};
+ghost use Rattle.cif_stim.specs.Held.{word_set_at, Starts};
+
+use crate::line::{Pair, StimLine};
+use cif_bits::Bits;
+use cif_cells::table::role;
+use cif_cells::{Cell, Param};
+use cif_defs::{Name, Role};
+
+/// A bit of a word and of its taint; a bit past the end is 0.
+fn pair_of(value: &Bits, taint: &Bits, index: u64) -> Pair
+    ensures value { result.value ≡ bit value.now index }
+    ensures taint { result.taint ≡ bit taint.now index }
+{
+    Pair {
+        value: bit_of(value.bits(), index),
+        taint: bit_of(taint.bits(), index),
+    }
+}
+
+/// A bit of a word; a bit past the end is 0.
+fn bit_of(bits: &[bool], index: u64) -> bool
+    ensures { result ≡ bit bits.now index }
+{
+    index < bits.len() as u64 && bits[index as usize]
+}
+
+/// The number of the line that sets a port last among the groups up to a cycle.
+pub fn last_set(lines: &[StimLine], port: &[u8], cycle: u64) -> Option<usize>
+    ensures { word_set_at lines.now result
+        ≡ held_by (map line_seen lines.now) port.now cycle unset }
+{
+    let mut setter = None;
+    for (number, line) in lines.iter().enumerate() {
+        match line {
+            StimLine::Cycle(later) if *later > cycle => return setter,
+            StimLine::Set { port: name, .. } if name.items() == port => setter = Some(number),
+            _ => {}
+        }
+    }
+    setter
+}
+
+/// A bit of the word that a line sets, or 0 where there is none.
+pub fn set_pair(lines: &[StimLine], setter: Option<usize>, index: u32) -> Pair
+    ensures value { result.value ≡ bit (word_set_at lines.now setter).value index }
+    ensures taint { result.taint ≡ bit (word_set_at lines.now setter).taint index }
+{
+    if let Some(number) = setter
+        && number < lines.len()
+        && let StimLine::Set { value, taint, .. } = &lines[number]
+    {
+        return pair_of(value, taint, u64::from(index));
+    }
+    Pair {
+        value: false,
+        taint: false,
+    }
+}
+
+/// Whether a cell stores a bit of this index.
+pub fn stores(cell: &Cell, index: u64) -> bool
+    ensures { result ≡ nat_lt index (state_bits cell.now) }
+{
+    let width = cell.number(Param::Width);
+    match role(cell.kind()) {
+        Role::PlainRegister | Role::ResetRegister => index < width,
+        Role::MemoryBlock => {
+            u128::from(index) < u128::from(cell.number(Param::Size)) * u128::from(width)
+        }
+        Role::Combinational | Role::CarriedOver => false,
+    }
+}
+
+/// Whether a cell has a name.
+fn is_named(owner: &Cell, name: &Name) -> bool
+    ensures { result ≡ bytes_eq name.now owner.now.name }
+{
+    name.items() == owner.name().items()
+}
+
+/// What a line makes of a bit with which a cell starts.
+fn started_by_line(line: &StimLine, owner: &Cell, index: u64, given: Pair) -> Pair
+    requires { index < state_bits owner.now }
+    ensures { Starts (line_seen line.now ∷ []) owner.now index given result }
+{
+    match line {
+        StimLine::Reg { cell, value, taint } if is_named(owner, cell) => {
+            pair_of(value, taint, index)
+        }
+        StimLine::Mem {
+            cell,
+            address,
+            value,
+            taint,
+        } if is_named(owner, cell) => {
+            let width = owner.number(Param::Width);
+            let row = address.saturating_sub(owner.number(Param::Offset));
+            if index / width == row {
+                pair_of(value, taint, index % width)
+            } else {
+                given
+            }
+        }
+        _ => given,
+    }
+}
+
+/// What lines make of a bit with which a cell starts.
+pub fn started_pair(lines: &[StimLine], owner: &Cell, index: u64, given: Pair) -> Pair
+    requires { index < state_bits owner.now }
+    ensures { Starts (map line_seen lines.now) owner.now index given result }
+{
+    let mut pair = given;
+    for line in lines {
+        pair = started_by_line(line, owner, index, pair);
+    }
+    pair
+}
