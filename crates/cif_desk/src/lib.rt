@@ -1,0 +1,7 @@
+//! The commands of the tool: words and files in, a text, a refusal or a fault out.
+#![tactic(auto)]
+
+mod command;
+mod refusal;
+mod stop;
+mod text;
