@@ -1,2 +1,4 @@
 pub mod TextLaws
 pub mod RefusalLaws
+pub mod ShownLaws
+pub mod CycleLaws

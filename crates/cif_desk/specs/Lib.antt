@@ -5,3 +5,5 @@ pub mod Pieces
 pub mod Permitted
 pub mod Ends
 pub mod Stops
+pub mod Stubs
+pub mod Shown

@@ -64,3 +64,11 @@ HasCause told asked failed read_fault write_fault NoMemory = Unit {0}
 pub data Says (line : List ℕ) (status : ℕ) (fault : Type 0) (old new : Option (List ℕ)) (result : ℕ) : Type 0 where
   said : result ≡ status → Appends old new line → Says line status fault old new result
   unsaid : result ≡ 4 → fault → AppendsPrefix old new line → Says line status fault old new result
+
+-- the writing of a text stops at a fault of out, or for want of memory
+abbrev pub StopsWriting : Type 0 → Option (List ℕ) → Option (List ℕ) → List ℕ → Stop → Type 0
+StopsWriting fault old new text Usage = ⊥
+StopsWriting fault old new text (Refused line) = ⊥
+StopsWriting fault old new text (Unread line) = ⊥
+StopsWriting fault old new text Unwritten = fault × AppendsPrefix old new text
+StopsWriting fault old new text NoMemory = AppendsPrefix old new text

@@ -2,6 +2,8 @@
 #![tactic(auto)]
 
 mod command;
+mod evaluation;
 mod refusal;
 mod stop;
+mod stubs;
 mod text;
