@@ -1,4 +1,4 @@
-use Rattle.std.proofs.Common.{ℕ, Bool, ◌≤◌, ◌<◌, ◌-◌, ◌≡◌, ◌∙◌, length, arith}
+use Rattle.std.proofs.Common.{ℕ, Bool, [], ◌∷◌, ◌++◌, ap, ◌≤◌, ◌<◌, ◌-◌, ◌≡◌, ◌∙◌, length, arith}
 use Rattle.std.proofs.lemmas.List.{get_or_default}
 use Rattle.cif_defs.specs.TaintRun.{taint}
 use Rattle.cif_defs.specs.declared.nets.Src.TheVariants.{Bit, Zero}
@@ -14,7 +14,7 @@ pub loop-i-preserved : goal.loop-i-preserved
 loop-i-preserved c =
     let shown : ℕ → Bool = taint (net_of c.args.frame.now.case) c.args.frame.now.case.stimulus c.args.frame.now.cycle in
     taint_push shown c.args.bits.now c.loop-i.i (Bit 0) c.pair_of-pair.result.taint c.args.text.now.items c.loop-i.text.items c.push.new.self.items
-    (omega arith) c.loop-i.invariant c.pair_of-pair.ensures.taint (cc)
+    (omega arith) c.loop-i.invariant c.pair_of-pair.ensures.taint (c.in_ok-push.ensures.items ∙ ap (λ (b : ℕ). c.loop-i.text.items ++ b ∷ []) c.digit.ensures)
 
 pub returns : goal.returns
 returns c =
