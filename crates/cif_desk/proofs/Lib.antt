@@ -2,3 +2,4 @@ pub mod TextLaws
 pub mod RefusalLaws
 pub mod ShownLaws
 pub mod CycleLaws
+pub mod FileLaws

@@ -25,10 +25,18 @@ pub record HoldsFile (files : Files) (name bytes : List ℕ) : Type 0 where
   pub told : file_named files name ≡ Some bytes
   pub within : length bytes ≤ file_limit
 
+-- the same, where the store tells its files
+pub record FileTold (told : Option Files) (name bytes : List ℕ) : Type 0 where
+  pub holds : (files : Files) → told ≡ Some files → HoldsFile files name bytes
+
 pub record HoldsLongFile (files : Files) (name : List ℕ) : Type 0 where
   pub bytes : List ℕ
   pub told : file_named files name ≡ Some bytes
   pub long : file_limit < length bytes
+
+pub record LongFileTold (told : Option Files) (name : List ℕ) (refusal : Refusal) : Type 0 where
+  pub holds : (files : Files) → told ≡ Some files → HoldsLongFile files name
+  pub is : too_long name ≡ refusal
 
 -- ---- netlists
 
@@ -64,6 +72,20 @@ pub record HoldsStimulus (files : Files) (name : List ℕ) (n : Netlist) (s : St
 pub data RefusesStimulus (files : Files) (name : List ℕ) (n : Netlist) (refusal : Refusal) : Type 0 where
   long_stimulus : HoldsLongFile files name → too_long name ≡ refusal → RefusesStimulus files name n refusal
   bad_stimulus : (bytes : List ℕ) → HoldsFile files name bytes → stimulus_read n bytes ≡ None → not_built ≡ refusal → RefusesStimulus files name n refusal
+
+-- ---- the same, where the store tells its files
+
+pub record NetlistTold (told : Option Files) (name : List ℕ) (raw : Raw) : Type 0 where
+  pub holds : (files : Files) → told ≡ Some files → HoldsNetlist files name raw
+
+pub record NetlistRefused (told : Option Files) (name : List ℕ) (refusal : Refusal) : Type 0 where
+  pub refuses : (files : Files) → told ≡ Some files → RefusesNetlist files name refusal
+
+pub record StimulusTold (told : Option Files) (name : List ℕ) (n : Netlist) (s : Stimulus) : Type 0 where
+  pub holds : (files : Files) → told ≡ Some files → HoldsStimulus files name n s
+
+pub record StimulusRefused (told : Option Files) (name : List ℕ) (n : Netlist) (refusal : Refusal) : Type 0 where
+  pub refuses : (files : Files) → told ≡ Some files → RefusesStimulus files name n refusal
 
 -- ---- what is answered
 

@@ -36,6 +36,14 @@ abbrev pub IsStopOf : Result (Vec ℕ Global) AllocError → Stop → Type 0
 IsStopOf (Ok line) stop = stop ≡ Refused line.items
 IsStopOf (Err none) stop = stop ≡ NoMemory
 
+-- the stop tells that the file of that name wasn't given, or that there was no memory for the line
+abbrev pub IsUnread : List ℕ → Stop → Type 0
+IsUnread name Usage = ⊥
+IsUnread name (Refused line) = ⊥
+IsUnread name (Unread line) = line ≡ read_fault_line name
+IsUnread name Unwritten = ⊥
+IsUnread name NoMemory = Unit {0}
+
 -- the stop is for a refusal of those that P has, or for want of memory
 abbrev pub StopsBy : (Refusal → Type 0) → Stop → Type 0
 StopsBy P Usage = ⊥

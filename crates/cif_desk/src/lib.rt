@@ -3,6 +3,7 @@
 
 mod command;
 mod evaluation;
+mod files;
 mod refusal;
 mod stop;
 mod stubs;

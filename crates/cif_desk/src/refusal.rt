@@ -2,12 +2,13 @@
 ghost use Rattle.std.specs.Prelude.{◌≡◌, ◌≢◌, ◌<◌, ◌∷◌, [], ℕ, codes, Some, option_map, EachIndex, slice_index, length, map, Result, IfOk};
 ghost use Rattle.std.specs.Fmt.{decimal};
 ghost use Rattle.cif_defs.specs.Text.{coded};
+ghost use Rattle.cif_defs.specs.Messages.{read_fault_line};
 ghost use Rattle.cif_defs.specs.Accepted.{netlist_of};
 ghost use Rattle.cif_desk.specs.Refusals.{refusal, port_refusal, bit_refusal, json_refusal, build_refusal, loop_refusal, not_built, too_long, line_of};
-ghost use Rattle.cif_desk.specs.Stops.{IsStopOf, StopsBy};
+ghost use Rattle.cif_desk.specs.Stops.{IsStopOf, IsUnread, StopsBy};
 
 use crate::stop::{Line, Stop};
-use crate::text::{Piece, refusal_line};
+use crate::text::{Piece, push_name, refusal_line};
 use Piece::{Name, Number, Plain};
 use cif_cells::{BuildFault, Netlist, Spot};
 use cif_json::JsonFault;
@@ -223,18 +224,37 @@ fn stop_by(line: Result<Vec<u8>, AllocError>) -> Stop
     }
 }
 
-/// The stop of a module that isn't accepted.
-pub(crate) fn build_stop(alloc: Global, fault: &BuildFault) -> Stop
-    ensures { StopsBy (λ r. build_refusal fault.now ≡ Some r) result }
+/// The stop of a file that the store failed to give.
+pub(crate) fn unread_stop(alloc: Global, name: &str) -> Stop
+    ensures { IsUnread name.now result }
 {
-    stop_by(build_line(alloc, fault))
+    match unread_line(alloc, name) {
+        Ok(line) => Stop::Unread(Line::of(line)),
+        Err(_) => Stop::NoMemory,
+    }
+}
+
+fn unread_line(alloc: Global, name: &str) -> Result<Vec<u8>, AllocError>
+    ensures { IfOk result (λ line. line.items ≡ read_fault_line name.now) }
+{
+    let mut line = Vec::from_slice(alloc, b"read fault: ")?;
+    push_name(&mut line, name.as_bytes())?;
+    line.push(b'\n')?;
+    Ok(line)
+}
+
+/// The stop of a module that isn't accepted.
+pub(crate) fn build_stop(alloc: Global, fault: BuildFault) -> Stop
+    ensures { StopsBy (λ r. build_refusal fault ≡ Some r) result }
+{
+    stop_by(build_line(alloc, &fault))
 }
 
 /// The stop of a file that isn't read as a netlist.
-pub(crate) fn json_stop(alloc: Global, fault: &JsonFault) -> Stop
-    ensures { StopsBy (λ r. json_refusal fault.now ≡ Some r) result }
+pub(crate) fn json_stop(alloc: Global, fault: JsonFault) -> Stop
+    ensures { StopsBy (λ r. json_refusal fault ≡ Some r) result }
 {
-    stop_by(json_line(alloc, fault))
+    stop_by(json_line(alloc, &fault))
 }
 
 /// The stop of a loop of cells.
