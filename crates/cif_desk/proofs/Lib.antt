@@ -3,3 +3,4 @@ pub mod RefusalLaws
 pub mod ShownLaws
 pub mod CycleLaws
 pub mod FileLaws
+pub mod AnswerLaws

@@ -16,7 +16,7 @@ use Rattle.cif_cells.specs.declared.fault.BuildFault.{BuildFault}
 use Rattle.cif_json.specs.Answers.{ComesTo, IsRefused}
 use Rattle.cif_json.specs.declared.fault.JsonFault.{JsonFault}
 use Rattle.cif_desk.specs.Commands.{Command, check, eval, net_word}
-use Rattle.cif_desk.specs.Refusals.{Refusal, too_long, json_refusal, build_refusal, loop_refusal, not_built}
+use Rattle.cif_desk.specs.Refusals.{Refusal, joined, too_long, json_refusal, build_refusal, loop_refusal, not_built}
 
 -- ---- files
 
@@ -91,9 +91,9 @@ pub record StimulusRefused (told : Option Files) (name : List ℕ) (n : Netlist)
 
 -- `accepted cells C bits B state S`: all cells, the net bits, and the bits of registers and memories
 abbrev pub check_text : Netlist → List ℕ
-check_text n =
-    codes "accepted cells " ++ decimal (length n.cells) ++ codes " bits " ++ decimal (length n.drivers) ++
-    codes " state " ++ decimal (sum (map state_bits n.cells)) ++ line_end ∷ []
+check_text n = joined (
+    codes "accepted cells " ∷ decimal (length n.cells) ∷ codes " bits " ∷ decimal (length n.drivers) ∷
+    codes " state " ∷ decimal (sum (map state_bits n.cells)) ∷ (line_end ∷ []) ∷ [])
 
 pub data Answer : Type 0 where
   usage : Answer

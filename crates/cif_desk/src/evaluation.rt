@@ -118,6 +118,7 @@ pub(crate) fn write<W: Sink>(out: &mut W, text: &[u8]) -> Result<(), Stop>
     ensures kept { OnOk result (W.faults out.new ≡ W.faults out.old) }
     ensures err { IfErr result (StopsWriting (Rose (W.faults out.old) (W.faults out.new))
         (W.taken out.old) (W.taken out.new) text.now) }
+    ensures unwritten { IfErr result (λ stop. stop ≡ Stop.Unwritten) }
 {
     match write_all(out, text) {
         Ok(()) => Ok(()),

@@ -2,9 +2,13 @@
 #![tactic(auto)]
 
 mod command;
+mod desk;
 mod evaluation;
 mod files;
 mod refusal;
 mod stop;
 mod stubs;
 mod text;
+
+pub use command::waits;
+pub use desk::quiet;

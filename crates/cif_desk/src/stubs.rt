@@ -14,7 +14,7 @@ use cif_cells::{BuildFault, NetBit, Netlist};
 use cif_defs::Raw;
 use cif_level::Levels;
 use cif_stim::{Pair, StimFault, Stimulus};
-use std::alloc::Global;
+use std::alloc::{AllocError, Global};
 use std::marker::Model;
 use std::sync::Arc;
 
@@ -39,10 +39,10 @@ pub(crate) fn read_stimulus<'a>(
     Err(StimFault::Memory)
 }
 
-pub(crate) fn state_bits_of(_netlist: &Netlist) -> Result<u64, NoMemory>
+pub(crate) fn state_bits_of(_netlist: &Netlist) -> Result<u64, AllocError>
     ensures { IfOk result (λ bits. bits ≡ sum (map state_bits (netlist_of _netlist.now).cells)) }
 {
-    Err(NoMemory)
+    Err(AllocError)
 }
 
 /// An accepted netlist with its levels and a stimulus. Contracts see it as these three.
