@@ -18,6 +18,7 @@ use Rattle.cif_desk.specs.Refusals.{Refusal, line_of}
 use Rattle.cif_desk.specs.Permitted.{HoldsNetlist, RefusesNetlist, HoldsStimulus, NetlistTold, NetlistRefused, StimulusTold, StimulusRefused, check_text, text, refused, netlist_refused, checked, stimulus_refused, evaluated, IsAllowed, IsDue, netlist_word, stimulus_word}
 use Rattle.cif_desk.specs.Ends.{WritesOut, TellsRefusal, KeepsApart, EvaluatesApart}
 use Rattle.cif_desk.specs.Stops.{StopsAtFile, StopsWriting, HasCause, end_status, stop_status}
+use Rattle.cif_desk.specs.Stubs.{CaseOf, net_of}
 use Rattle.cif_desk.specs.declared.stop.Stop.{Stop}
 use Rattle.cif_desk.specs.declared.stop.Stop.TheVariants.{Usage, Refused, Unread, Unwritten, NoMemory}
 use Rattle.cif_desk.proofs.CycleLaws.{Rose-since}
@@ -105,6 +106,13 @@ module _ (told : Option Files) (net : List ℕ) (raw : Raw) (netlist : NetlistTo
   out_of_eval stim s fault old new (Err Unwritten) stimulus ok stops = out_broken told (Some (eval net stim)) (eval_text (netlist_of raw) s) old new (eval_allowed stim s stimulus) stops.1
   out_of_eval stim s fault old new (Err NoMemory) stimulus ok stops = out_stopped told net stim (eval_text (netlist_of raw) s) old new (eval_allowed stim s stimulus) stops
 
+  -- the same, by the case that is evaluated
+  pub out_of_case : {A : Type 0} (stim : List ℕ) (s : Stimulus) (order : List ℕ) (v : CaseOf) (fault : Type 0) (old new : Option (List ℕ)) (r : Result A Stop) → v ≡ record { raw = raw; order = order; stimulus = s } → StimulusTold told stim (netlist_of raw) s → OnOk r (Appends old new (eval_text (net_of v) v.stimulus)) → IfErr r (StopsWriting fault old new (eval_text (net_of v) v.stimulus)) → WritesOut told (Some (eval net stim)) (end_status r) old new
+  out_of_case stim s order v fault old new r e stimulus ok stops =
+      let Whole : CaseOf → Type 0 = λ c. OnOk r (Appends old new (eval_text (net_of c) c.stimulus)) in
+      let Stopped : CaseOf → Type 0 = λ c. IfErr r (StopsWriting fault old new (eval_text (net_of c) c.stimulus)) in
+      out_of_eval stim s fault old new r stimulus (subst Whole e ok) (subst Stopped e stops)
+
 -- ---- causes
 
 -- a stop at the writing
@@ -180,3 +188,8 @@ apart told net stim raw order netlist levelled = λ files other file raw2 s t e 
     record {
       same = λ u k b agrees clear. noninterference (netlist_of raw2) order s u k (wired raw2 h.passes.accepted) (subst Q same levelled) agrees b clear;
     }
+
+-- a fact holds where a result is good
+pub on_ok_fact : {A E P : Type 0} (r : Result A E) → P → OnOk r P
+on_ok_fact (Ok x) h = h
+on_ok_fact (Err e) h = tt

@@ -4,3 +4,4 @@ pub mod ShownLaws
 pub mod CycleLaws
 pub mod FileLaws
 pub mod AnswerLaws
+pub mod EndLaws
