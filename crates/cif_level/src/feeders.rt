@@ -187,7 +187,7 @@ pub(crate) fn next_feed(
     ensures feeds { IfSome result (λ f. feeder_at (netlist_of netlist.now) cell f.place.port f.place.index ≡ Some f.cell) }
     ensures unplaced { IfSome result (λ f. mark_of marks.now f.cell ≢ Placed) }
 {
-    let count = cell_data(netlist, cell).operand_count() as u32;
+    let count = cell_data(netlist, cell).operands().len() as u32;
     let mut place = from;
     while place.port < count {
         if let Some(feed) = next_in_port(netlist, marks, cell, place) {

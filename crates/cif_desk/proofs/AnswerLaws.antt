@@ -1,0 +1,195 @@
+-- What commands leave, by the way in which they end.
+use Rattle.std.specs.Prelude.{ℕ, ◌<◌, ◌≤◌, ◌≡◌, ◌⊎◌, Bool, true, false, List, [], ◌∷◌, ◌++◌, Option, Some, None, IsSome, Result, Ok, Err, OnOk, IfErr, refl}
+use Rattle.std.proofs.Common.{arith, ap, sym, subst, inl, inr, ◌∙◌, append-nil}
+use Rattle.cif_io.specs.Outside.{Files, Rose, Appends, AppendsPrefix}
+use Rattle.cif_io.proofs.OutsideLaws.{Appends-nothing}
+use Rattle.cif_defs.specs.Netlist.{Netlist}
+use Rattle.cif_defs.specs.Stimulus.{Stimulus}
+use Rattle.cif_defs.specs.Accepted.{netlist_of}
+use Rattle.cif_defs.specs.Loop.{IsLevelled}
+use Rattle.cif_defs.specs.EvalText.{eval_text}
+use Rattle.cif_defs.specs.Messages.{read_fault_line}
+use Rattle.cif_defs.specs.declared.raw_module.Raw.{Raw}
+use Rattle.cif_defs.proofs.Noninterference.{noninterference}
+use Rattle.cif_cells.proofs.Wired.{wired}
+use Rattle.cif_json.specs.Answers.{ComesTo}
+use Rattle.cif_desk.specs.Commands.{Command, check, eval, net_word}
+use Rattle.cif_desk.specs.Refusals.{Refusal, line_of}
+use Rattle.cif_desk.specs.Permitted.{HoldsNetlist, RefusesNetlist, HoldsStimulus, NetlistTold, NetlistRefused, StimulusTold, StimulusRefused, check_text, text, refused, netlist_refused, checked, stimulus_refused, evaluated, IsAllowed, IsDue, netlist_word, stimulus_word}
+use Rattle.cif_desk.specs.Ends.{WritesOut, TellsRefusal, KeepsApart, EvaluatesApart}
+use Rattle.cif_desk.specs.Stops.{StopsAtFile, StopsWriting, HasCause, end_status, stop_status}
+use Rattle.cif_desk.specs.Stubs.{CaseOf, net_of}
+use Rattle.cif_desk.specs.declared.stop.Stop.{Stop}
+use Rattle.cif_desk.specs.declared.stop.Stop.TheVariants.{Usage, Refused, Unread, Unwritten, NoMemory}
+use Rattle.cif_desk.proofs.CycleLaws.{Rose-since}
+
+-- ---- out
+
+pub out_whole : (told : Option Files) (asked : Option Command) (bytes : List ℕ) (old new : Option (List ℕ)) → IsAllowed told asked (text bytes) → Appends old new bytes → WritesOut told asked 0 old new
+out_whole told asked bytes old new allowed h = record {
+  bytes = bytes;
+  appended = h;
+  whole = λ e. allowed;
+  nothing = λ a b. absurd (omega arith);
+  part = λ a. absurd (omega arith);
+  whole_texts = λ net e f. absurd (omega arith);
+}
+
+pub out_nothing : (told : Option Files) (asked : Option Command) (status : ℕ) (old new : Option (List ℕ)) → 1 ≤ status → new ≡ old → WritesOut told asked status old new
+out_nothing told asked status old new l h = record {
+  bytes = [];
+  appended = Appends-nothing h;
+  whole = λ e. absurd (omega arith);
+  nothing = λ a b. refl;
+  part = λ a. inl refl;
+  whole_texts = λ net e f. refl;
+}
+
+allowed_along : (told : Option Files) (asked : Option Command) (s t : List ℕ) → s ≡ t → IsAllowed told asked (text t) → IsAllowed told asked (text s)
+allowed_along told asked s t e h = let P : List ℕ → Type 0 = λ u. IsAllowed told asked (text u) in subst P (sym e) h
+
+-- a beginning of a permitted text, at a write fault
+pub out_broken : (told : Option Files) (asked : Option Command) (bytes : List ℕ) (old new : Option (List ℕ)) → IsAllowed told asked (text bytes) → AppendsPrefix old new bytes → WritesOut told asked 4 old new
+out_broken told asked bytes old new allowed h = record {
+  bytes = h.first;
+  appended = h.appended;
+  whole = λ e. absurd (omega arith);
+  nothing = λ a b. absurd (omega arith);
+  part = λ a. inr (h.rest, allowed_along told asked (h.first ++ h.rest) bytes h.is_beginning allowed);
+  whole_texts = λ net e f. absurd (omega arith);
+}
+
+-- the same for want of memory, in an evaluation
+pub out_stopped : (told : Option Files) (net stim : List ℕ) (bytes : List ℕ) (old new : Option (List ℕ)) → IsAllowed told (Some (eval net stim)) (text bytes) → AppendsPrefix old new bytes → WritesOut told (Some (eval net stim)) 5 old new
+out_stopped told net stim bytes old new allowed h = record {
+  bytes = h.first;
+  appended = h.appended;
+  whole = λ e. absurd (omega arith);
+  nothing = λ a b. absurd (omega arith);
+  part = λ a. inr (h.rest, allowed_along told (Some (eval net stim)) (h.first ++ h.rest) bytes h.is_beginning allowed);
+  whole_texts = λ other e f. absurd (cc);
+}
+
+-- a stop at a file
+pub out_at_file : (P : Refusal → Type 0) (fault : Type 0) (name : List ℕ) (told : Option Files) (asked : Option Command) (old new : Option (List ℕ)) (stop : Stop) → StopsAtFile P fault name stop → new ≡ old → WritesOut told asked (stop_status stop) old new
+out_at_file P fault name told asked old new Usage h e = absurd h
+out_at_file P fault name told asked old new (Refused line) h e = out_nothing told asked 2 old new (omega arith) e
+out_at_file P fault name told asked old new (Unread line) h e = out_nothing told asked 3 old new (omega arith) e
+out_at_file P fault name told asked old new Unwritten h e = absurd h
+out_at_file P fault name told asked old new NoMemory h e = out_nothing told asked 5 old new (omega arith) e
+
+-- ---- commands
+
+module _ (told : Option Files) (net : List ℕ) (raw : Raw) (netlist : NetlistTold told net raw) where
+
+  check_allowed : (bytes : List ℕ) → bytes ≡ check_text (netlist_of raw) → IsAllowed told (Some (check net)) (text bytes)
+  check_allowed bytes e = allowed_along told (Some (check net)) bytes (check_text (netlist_of raw)) e (λ files t. checked net raw (netlist.holds files t))
+
+  -- the text of `check` was written, or a beginning of it
+  pub out_of_check : {A : Type 0} (bytes : List ℕ) (fault : Type 0) (old new : Option (List ℕ)) (r : Result A Stop) → bytes ≡ check_text (netlist_of raw) → OnOk r (Appends old new bytes) → IfErr r (StopsWriting fault old new bytes) → IfErr r (λ stop. stop ≡ Unwritten) → WritesOut told (Some (check net)) (end_status r) old new
+  out_of_check bytes fault old new (Ok x) e ok stops is = out_whole told (Some (check net)) bytes old new (check_allowed bytes e) ok
+  out_of_check bytes fault old new (Err Usage) e ok stops is = absurd stops
+  out_of_check bytes fault old new (Err (Refused line)) e ok stops is = absurd stops
+  out_of_check bytes fault old new (Err (Unread line)) e ok stops is = absurd stops
+  out_of_check bytes fault old new (Err Unwritten) e ok stops is = out_broken told (Some (check net)) bytes old new (check_allowed bytes e) stops.1
+  out_of_check bytes fault old new (Err NoMemory) e ok stops is = absurd (cc)
+
+  pub eval_allowed : (stim : List ℕ) (s : Stimulus) → StimulusTold told stim (netlist_of raw) s → IsAllowed told (Some (eval net stim)) (text (eval_text (netlist_of raw) s))
+  eval_allowed stim s stimulus = λ files t. evaluated net stim raw s (netlist.holds files t) (stimulus.holds files t)
+
+  -- the text of `eval` was written, or a beginning of it
+  pub out_of_eval : {A : Type 0} (stim : List ℕ) (s : Stimulus) (fault : Type 0) (old new : Option (List ℕ)) (r : Result A Stop) → StimulusTold told stim (netlist_of raw) s → OnOk r (Appends old new (eval_text (netlist_of raw) s)) → IfErr r (StopsWriting fault old new (eval_text (netlist_of raw) s)) → WritesOut told (Some (eval net stim)) (end_status r) old new
+  out_of_eval stim s fault old new (Ok x) stimulus ok stops = out_whole told (Some (eval net stim)) (eval_text (netlist_of raw) s) old new (eval_allowed stim s stimulus) ok
+  out_of_eval stim s fault old new (Err Usage) stimulus ok stops = absurd stops
+  out_of_eval stim s fault old new (Err (Refused line)) stimulus ok stops = absurd stops
+  out_of_eval stim s fault old new (Err (Unread line)) stimulus ok stops = absurd stops
+  out_of_eval stim s fault old new (Err Unwritten) stimulus ok stops = out_broken told (Some (eval net stim)) (eval_text (netlist_of raw) s) old new (eval_allowed stim s stimulus) stops.1
+  out_of_eval stim s fault old new (Err NoMemory) stimulus ok stops = out_stopped told net stim (eval_text (netlist_of raw) s) old new (eval_allowed stim s stimulus) stops
+
+  -- the same, by the case that is evaluated
+  pub out_of_case : {A : Type 0} (stim : List ℕ) (s : Stimulus) (order : List ℕ) (v : CaseOf) (fault : Type 0) (old new : Option (List ℕ)) (r : Result A Stop) → v ≡ record { raw = raw; order = order; stimulus = s } → StimulusTold told stim (netlist_of raw) s → OnOk r (Appends old new (eval_text (net_of v) v.stimulus)) → IfErr r (StopsWriting fault old new (eval_text (net_of v) v.stimulus)) → WritesOut told (Some (eval net stim)) (end_status r) old new
+  out_of_case stim s order v fault old new r e stimulus ok stops =
+      let Whole : CaseOf → Type 0 = λ c. OnOk r (Appends old new (eval_text (net_of c) c.stimulus)) in
+      let Stopped : CaseOf → Type 0 = λ c. IfErr r (StopsWriting fault old new (eval_text (net_of c) c.stimulus)) in
+      out_of_eval stim s fault old new r stimulus (subst Whole e ok) (subst Stopped e stops)
+
+-- ---- causes
+
+-- a stop at the writing
+pub cause_of_writing : (told : Option Files) (asked : Option Command) (failed : List ℕ) (read_fault write_fault : Type 0) (old new : Option (List ℕ)) (bytes : List ℕ) (stop : Stop) → StopsWriting write_fault old new bytes stop → HasCause told asked failed read_fault write_fault stop
+cause_of_writing told asked failed read_fault write_fault old new bytes Usage h = absurd h
+cause_of_writing told asked failed read_fault write_fault old new bytes (Refused line) h = absurd h
+cause_of_writing told asked failed read_fault write_fault old new bytes (Unread line) h = absurd h
+cause_of_writing told asked failed read_fault write_fault old new bytes Unwritten h = h.0
+cause_of_writing told asked failed read_fault write_fault old new bytes NoMemory h = tt
+
+due_along : (told : Option Files) (asked : Option Command) (name failed : List ℕ) → failed ≡ name → IsDue told asked name → IsDue told asked failed
+due_along told asked name failed e h = let P : List ℕ → Type 0 = IsDue told asked in subst P (sym e) h
+
+-- a stop at the netlist
+pub cause_at_netlist : (told : Option Files) (c : Command) (name failed : List ℕ) (rose write_fault : Type 0) (stop : Stop) → net_word c ≡ name → StopsAtFile (NetlistRefused told name) (rose × (failed ≡ name)) name stop → HasCause told (Some c) failed rose write_fault stop
+cause_at_netlist told c name failed rose write_fault Usage e h = absurd h
+cause_at_netlist told c name failed rose write_fault (Refused line) e h = (
+    h.0,
+    (λ files t. netlist_refused c h.0 (let P : List ℕ → Type 0 = λ w. RefusesNetlist files w h.0 in subst P (sym e) (h.1.refuses files t))),
+    h.2)
+cause_at_netlist told c name failed rose write_fault (Unread line) e h = (
+    h.0.0,
+    due_along told (Some c) (net_word c) failed (h.0.1 ∙ sym e) (netlist_word c),
+    h.1 ∙ ap read_fault_line (sym h.0.1))
+cause_at_netlist told c name failed rose write_fault Unwritten e h = absurd h
+cause_at_netlist told c name failed rose write_fault NoMemory e h = tt
+
+-- a stop at the stimulus; mid is what the store tells after the netlist was fetched
+pub cause_at_stimulus : (told mid : Option Files) (net stim failed : List ℕ) (raw : Raw) (rose later write_fault : Type 0) (stop : Stop) → mid ≡ told → (rose → later) → NetlistTold told net raw → StopsAtFile (StimulusRefused mid stim (netlist_of raw)) (rose × (failed ≡ stim)) stim stop → HasCause told (Some (eval net stim)) failed later write_fault stop
+cause_at_stimulus told mid net stim failed raw rose later write_fault Usage e f netlist h = absurd h
+cause_at_stimulus told mid net stim failed raw rose later write_fault (Refused line) e f netlist h = (
+    h.0,
+    (λ files t. stimulus_refused net stim raw h.0 (netlist.holds files t) (h.1.refuses files (e ∙ t))),
+    h.2)
+cause_at_stimulus told mid net stim failed raw rose later write_fault (Unread line) e f netlist h = (
+    f h.0.0,
+    due_along told (Some (eval net stim)) stim failed h.0.1 (stimulus_word net stim (λ files t. (raw, netlist.holds files t))),
+    h.1 ∙ ap read_fault_line (sym h.0.1))
+cause_at_stimulus told mid net stim failed raw rose later write_fault Unwritten e f netlist h = absurd h
+cause_at_stimulus told mid net stim failed raw rose later write_fault NoMemory e f netlist h = tt
+
+-- what the store tells stays
+pub StimulusTold-along : (told mid : Option Files) (name : List ℕ) (n : Netlist) (s : Stimulus) → mid ≡ told → StimulusTold mid name n s → StimulusTold told name n s
+StimulusTold-along told mid name n s e h = record { holds = λ files t. h.holds files (e ∙ t) }
+
+-- ---- noninterference
+
+-- bytes say one module at most
+same_module : (bytes : List ℕ) (a b : Raw) → ComesTo bytes (Ok a) → ComesTo bytes (Ok b) → a ≡ b
+same_module bytes a b h k =
+    let d = h.1.1 in
+    let e = k.1.1 in
+    let same : h.0 ≡ k.0 = cc in
+    let read = h.2 in
+    let again = k.2 in
+    cc
+
+same_netlist : (files : Files) (name : List ℕ) (a b : Raw) → HoldsNetlist files name a → HoldsNetlist files name b → a ≡ b
+same_netlist files name a b h k =
+    let first = h.held.told in
+    let second = k.held.told in
+    let same : h.bytes ≡ k.bytes = cc in
+    let P : List ℕ → Type 0 = λ bytes. ComesTo bytes (Ok a) in
+    same_module k.bytes a b (subst P same h.passes.read) k.passes.read
+
+pub apart : (told : Option Files) (net stim : List ℕ) (raw : Raw) (order : List ℕ) → NetlistTold told net raw → IsLevelled (netlist_of raw) order → EvaluatesApart told (Some (eval net stim))
+apart told net stim raw order netlist levelled = λ files other file raw2 s t e h stimulus.
+    let word : net ≡ other = cc in
+    let P : List ℕ → Type 0 = λ w. HoldsNetlist files w raw in
+    let held : HoldsNetlist files other raw = subst P word (netlist.holds files t) in
+    let same : raw ≡ raw2 = same_netlist files other raw raw2 held h in
+    let Q : Raw → Type 0 = λ r. IsLevelled (netlist_of r) order in
+    record {
+      same = λ u k b agrees clear. noninterference (netlist_of raw2) order s u k (wired raw2 h.passes.accepted) (subst Q same levelled) agrees b clear;
+    }
+
+-- a fact holds where a result is good
+pub on_ok_fact : {A E P : Type 0} (r : Result A E) → P → OnOk r P
+on_ok_fact (Ok x) h = h
+on_ok_fact (Err e) h = tt

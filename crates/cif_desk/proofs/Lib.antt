@@ -1,0 +1,7 @@
+pub mod TextLaws
+pub mod RefusalLaws
+pub mod ShownLaws
+pub mod CycleLaws
+pub mod FileLaws
+pub mod AnswerLaws
+pub mod EndLaws

@@ -1,0 +1,69 @@
+-- What a call leaves, by the status that it ends with: 0 the whole text, 1 usage, 2 a refusal, 3 a read fault, 4 a write
+-- fault, 5 want of memory.
+use Rattle.std.specs.Prelude.{ℕ, ◌<◌, ◌≤◌, ◌≡◌, ◌⊎◌, false, List, [], ◌++◌, Option, Some, None, IsSome}
+use Rattle.cif_io.specs.Outside.{Files, Appends}
+use Rattle.cif_defs.specs.Accepted.{netlist_of}
+use Rattle.cif_defs.specs.Netlist.{Netlist}
+use Rattle.cif_defs.specs.Stimulus.{Stimulus}
+use Rattle.cif_defs.specs.Run.{value}
+use Rattle.cif_defs.specs.TaintRun.{taint}
+use Rattle.cif_defs.specs.Agreement.{AgreesUpTo}
+use Rattle.cif_defs.specs.Messages.{usage_line, read_fault_line, write_fault_line, memory_line}
+use Rattle.cif_defs.specs.declared.raw_module.Raw.{Raw}
+use Rattle.cif_desk.specs.Commands.{Command, check, eval}
+use Rattle.cif_desk.specs.Refusals.{Refusal, line_of}
+use Rattle.cif_desk.specs.Permitted.{Answer, refused, text, IsAllowed, IsDue, HoldsNetlist, HoldsStimulus}
+
+-- ---- out
+
+-- the beginning of a permitted text, or nothing
+abbrev pub IsBeginning : Option Files → Option Command → List ℕ → Type 0
+IsBeginning told asked bytes = (bytes ≡ []) ⊎ ((rest : List ℕ) × IsAllowed told asked (text (bytes ++ rest)))
+
+-- what out took in a call
+pub record WritesOut (told : Option Files) (asked : Option Command) (status : ℕ) (old new : Option (List ℕ)) : Type 0 where
+  pub bytes : List ℕ
+  pub appended : Appends old new bytes
+  pub whole : status ≡ 0 → IsAllowed told asked (text bytes)
+  pub nothing : 1 ≤ status → status ≤ 3 → bytes ≡ []
+  pub part : 4 ≤ status → IsBeginning told asked bytes
+  -- but for `eval`, want of memory comes before the first write
+  pub whole_texts : (net : List ℕ) → status ≡ 5 → asked ≡ Some (check net) → bytes ≡ []
+
+-- ---- err
+
+-- the line of a refusal that is permitted
+abbrev pub TellsRefusal : Option Files → Option Command → List ℕ → Type 0
+TellsRefusal told asked bytes = (r : Refusal) × IsAllowed told asked (refused r) × (bytes ≡ line_of r)
+
+-- a line that may be told; failed is the name of the last fetch that failed
+pub data MayTell (told : Option Files) (asked : Option Command) (failed bytes : List ℕ) : Type 0 where
+  tells_usage : asked ≡ None → bytes ≡ usage_line → MayTell told asked failed bytes
+  tells_refusal : TellsRefusal told asked bytes → MayTell told asked failed bytes
+  tells_read_fault : IsDue told asked failed → bytes ≡ read_fault_line failed → MayTell told asked failed bytes
+  tells_write_fault : bytes ≡ write_fault_line → MayTell told asked failed bytes
+  tells_memory : IsSome asked → bytes ≡ memory_line → MayTell told asked failed bytes
+
+-- what err took in a call
+pub record WritesErr (told : Option Files) (asked : Option Command) (failed : List ℕ) (status : ℕ) (old new : Option (List ℕ)) : Type 0 where
+  pub bytes : List ℕ
+  pub appended : Appends old new bytes
+  pub nothing : status ≡ 0 → bytes ≡ []
+  pub usage : status ≡ 1 → bytes ≡ usage_line
+  pub refusal : status ≡ 2 → TellsRefusal told asked bytes
+  pub read_fault : status ≡ 3 → bytes ≡ read_fault_line failed
+  pub part : status ≡ 4 → (rest : List ℕ) × MayTell told asked failed (bytes ++ rest)
+  pub memory : status ≡ 5 → bytes ≡ memory_line
+
+-- ---- what a text of `eval` says
+
+-- every stimulus that agrees with s outside its taint up to a cycle gives each bit that is untainted in that cycle the
+-- same value there
+pub record KeepsApart (n : Netlist) (s : Stimulus) : Type 0 where
+  pub same : (u : Stimulus) (k b : ℕ) → AgreesUpTo n k s u → taint n s k b ≡ false → value n u k b ≡ value n s k b
+
+-- so it is for the netlist and the stimulus that are evaluated
+abbrev pub EvaluatesApart : Option Files → Option Command → Type 0
+EvaluatesApart told asked =
+    (files : Files) (net stim : List ℕ) (raw : Raw) (s : Stimulus) → told ≡ Some files → asked ≡ Some (eval net stim)
+    → HoldsNetlist files net raw → HoldsStimulus files stim (netlist_of raw) s → KeepsApart (netlist_of raw) s

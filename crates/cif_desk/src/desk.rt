@@ -1,0 +1,172 @@
+// The commands: files fetched, words matched and texts written stand here alone.
+ghost use Rattle.std.specs.Prelude.{◌≡◌, ◌≤◌, ◌⊎◌, ◌<◌, ℕ, false, map, string_bytes, Some, None, IsSome, IfOk, IfErr, OnOk, Err};
+ghost use Rattle.cif_io.specs.Outside.{Rose};
+ghost use Rattle.cif_defs.specs.Accepted.{netlist_of};
+ghost use Rattle.cif_desk.specs.Commands.{check as checks, eval as evaluates, may_wait};
+ghost use Rattle.cif_desk.specs.CommandView.{asked_by};
+ghost use Rattle.cif_desk.specs.Permitted.{check_text as text_of_check, IsDue};
+ghost use Rattle.cif_desk.specs.Ends.{WritesOut, WritesErr, EvaluatesApart};
+ghost use Rattle.cif_desk.specs.Stops.{HasCause, Says, end_status, stop_line, stop_status};
+
+use crate::command::{Command, asked};
+use crate::evaluation::{write, write_cycles};
+use crate::files::{netlist_file, stimulus_file};
+use crate::stop::Stop;
+use crate::stubs::{Case, state_bits_of};
+use crate::text::{Piece, push_all};
+use cif_cells::Netlist;
+use cif_io::{Sink, Store, write_all};
+use std::alloc::{AllocError, Global};
+use std::sync::Arc;
+
+/// The counts of a netlist.
+fn check_text(alloc: Global, netlist: &Netlist) -> Result<Vec<u8>, AllocError>
+    ensures { IfOk result (λ text. text.items ≡ text_of_check (netlist_of netlist.now)) }
+{
+    let pieces = [
+        Piece::Plain("accepted cells "),
+        Piece::Number(netlist.cells().len() as u64),
+        Piece::Plain(" bits "),
+        Piece::Number(u64::from(netlist.bits())),
+        Piece::Plain(" state "),
+        Piece::Number(state_bits_of(netlist)?),
+        Piece::Plain("\n"),
+    ];
+    let mut text = Vec::new(alloc);
+    push_all(alloc, &mut text, &pieces)?;
+    Ok(text)
+}
+
+/// `check NET`.
+fn check<S: Store, W: Sink>(
+    alloc: Global,
+    net: &str,
+    store: &mut S,
+    out: &mut W,
+) -> Result<(), Stop>
+    ensures out { WritesOut (S.told store.old) (Some (checks net.now)) (end_status result)
+        (W.taken out.old) (W.taken out.new) }
+    ensures cause { IfErr result (HasCause (S.told store.old) (Some (checks net.now))
+        (S.last_failed store.new) (Rose (S.faults store.old) (S.faults store.new))
+        (Rose (W.faults out.old) (W.faults out.new))) }
+{
+    let accepted = netlist_file(alloc, net, store)?;
+    let text = check_text(alloc, &accepted.netlist)?;
+    write(out, &text)
+}
+
+/// `eval NET STIM`.
+fn eval<S: Store, W: Sink>(
+    alloc: Global,
+    net: &str,
+    stim: &str,
+    store: &mut S,
+    out: &mut W,
+) -> Result<(), Stop>
+    ensures out { WritesOut (S.told store.old) (Some (evaluates net.now stim.now)) (end_status result)
+        (W.taken out.old) (W.taken out.new) }
+    ensures cause { IfErr result (HasCause (S.told store.old) (Some (evaluates net.now stim.now))
+        (S.last_failed store.new) (Rose (S.faults store.old) (S.faults store.new))
+        (Rose (W.faults out.old) (W.faults out.new))) }
+    ensures noninterference { OnOk result
+        (EvaluatesApart (S.told store.old) (Some (evaluates net.now stim.now))) }
+{
+    let accepted = netlist_file(alloc, net, store)?;
+    let stimulus = stimulus_file(alloc, stim, &accepted.netlist, store)?;
+    let case = Case::new(alloc, accepted.netlist, accepted.levels, stimulus)?;
+    let case = Arc::new(alloc, case)?;
+    write_cycles(alloc, &case, out)
+}
+
+/// Does what the words ask, and writes its text to out.
+fn answer<S: Store, W: Sink>(
+    alloc: Global,
+    words: &[String],
+    store: &mut S,
+    out: &mut W,
+) -> Result<(), Stop>
+    ensures out { WritesOut (S.told store.old) (asked_by words.now) (end_status result)
+        (W.taken out.old) (W.taken out.new) }
+    ensures cause { IfErr result (HasCause (S.told store.old) (asked_by words.now)
+        (S.last_failed store.new) (Rose (S.faults store.old) (S.faults store.new))
+        (Rose (W.faults out.old) (W.faults out.new))) }
+    ensures no_form { asked_by words.now ≡ None → result ≡ Err Stop.Usage }
+    ensures noninterference { OnOk result (EvaluatesApart (S.told store.old) (asked_by words.now)) }
+{
+    match asked(words) {
+        Some(Command::Check { net }) => check(alloc, net, store, out),
+        Some(Command::Eval { net, stim }) => eval(alloc, net, stim, store, out),
+        None => Err(Stop::Usage),
+    }
+}
+
+/// Writes a line to err. The status is 4 where that fails.
+fn say<E: Sink>(err: &mut E, line: &[u8], status: u8) -> u8
+    ensures { Says line.now status (Rose (E.faults err.old) (E.faults err.new))
+        (E.taken err.old) (E.taken err.new) result }
+{
+    match write_all(err, line) {
+        Ok(()) => status,
+        Err(_) => 4,
+    }
+}
+
+/// Tells on err why there is no whole text.
+fn tell<E: Sink>(err: &mut E, stop: &Stop) -> u8
+    ensures { Says (stop_line stop.now) (stop_status stop.now)
+        (Rose (E.faults err.old) (E.faults err.new)) (E.taken err.old) (E.taken err.new) result }
+{
+    match stop {
+        Stop::Usage => {
+            let usage = b"usage: cellift check, eval, instrument, augstim, explain, run or gen\n";
+            say(err, usage, 1)
+        }
+        Stop::Refused(line) => say(err, line.items(), 2),
+        Stop::Unread(line) => say(err, line.items(), 3),
+        Stop::Unwritten => say(err, b"write fault\n", 4),
+        Stop::NoMemory => say(err, b"out of memory\n", 5),
+    }
+}
+
+/// Does what the words ask: fetches the files that they name from `store`, writes the text to `out`, and one line to
+/// `err` where there is no whole text. It always returns.
+///
+/// The status is 0 where the text was written whole, 1 for usage, 2 for a refusal, 3 for a read fault, 4 for a write
+/// fault, and 5 for want of memory.
+pub fn quiet<S: Store, W: Sink, E: Sink>(
+    alloc: Global,
+    words: &[String],
+    store: &mut S,
+    out: &mut W,
+    err: &mut E,
+) -> u8
+    requires { may_wait (map string_bytes words.now) ≡ false }
+    ensures range { result ≤ 5 }
+
+    // Usage comes exactly where the words fit no form, unless err fails to take its line.
+    ensures usage_only { result ≡ 1 → asked_by words.now ≡ None }
+    ensures usage { asked_by words.now ≡ None → (result ≡ 1) ⊎ (result ≡ 4) }
+
+    // A fault comes only where a count rose, and a read fault only at a file word that is due.
+    ensures read_fault { result ≡ 3 → Rose (S.faults store.old) (S.faults store.new)
+        × IsDue (S.told store.old) (asked_by words.now) (S.last_failed store.new) }
+    ensures write_fault { result ≡ 4 → Rose (W.faults out.old) (W.faults out.new)
+        ⊎ Rose (E.faults err.old) (E.faults err.new) }
+    ensures memory { result ≡ 5 → IsSome (asked_by words.now) }
+    ensures complete { IsSome (asked_by words.now) → ¬ Rose (S.faults store.old) (S.faults store.new)
+        → ¬ Rose (W.faults out.old) (W.faults out.new) → ¬ Rose (E.faults err.old) (E.faults err.new)
+        → (result ≡ 0) ⊎ ((result ≡ 2) ⊎ (result ≡ 5)) }
+
+    // Out takes a permitted text, a beginning of one, or nothing; err takes nothing, or one line.
+    ensures out { WritesOut (S.told store.old) (asked_by words.now) result
+        (W.taken out.old) (W.taken out.new) }
+    ensures err { WritesErr (S.told store.old) (asked_by words.now) (S.last_failed store.new) result
+        (E.taken err.old) (E.taken err.new) }
+
+    ensures noninterference { result ≡ 0 → EvaluatesApart (S.told store.old) (asked_by words.now) }
+{
+    match answer(alloc, words, store, out) {
+        Ok(()) => 0,
+        Err(stop) => tell(err, &stop),
+    }
+}

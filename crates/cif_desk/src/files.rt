@@ -1,0 +1,113 @@
+// Files that words name, read and checked.
+ghost use Rattle.std.specs.Prelude.{◌≡◌, ◌<◌, ℕ, List, Some, None, IfOk, IfErr, OnOk};
+ghost use Rattle.cif_io.specs.Outside.{Rose};
+ghost use Rattle.cif_defs.specs.Accepted.{netlist_of};
+ghost use Rattle.cif_defs.specs.Loop.{IsLevelled};
+ghost use Rattle.cif_defs.specs.StimulusText.{stimulus_read};
+ghost use Rattle.cif_desk.specs.Refusals.{not_built};
+ghost use Rattle.cif_desk.specs.Permitted.{FileTold, LongFileTold, IsNetlist, FailsNetlist, NetlistTold, NetlistRefused, StimulusTold, StimulusRefused};
+ghost use Rattle.cif_desk.specs.Stops.{StopsBy, StopsAtFile};
+
+use crate::refusal::{
+    build_stop, json_stop, loop_stop, not_built_stop, too_long_stop, unread_stop,
+};
+use crate::stop::Stop;
+use crate::stubs::{build, read_stimulus};
+use cif_cells::Netlist;
+use cif_io::{Store, StoreFault};
+use cif_json::read_netlist;
+use cif_level::{LevelFault, Levels, levels};
+use cif_stim::{StimFault, Stimulus};
+use std::alloc::Global;
+
+/// A netlist that was accepted, and the order in which its cells are evaluated.
+#[derive(Drop)]
+pub(crate) struct Accepted {
+    pub netlist: Netlist,
+    pub levels: Levels,
+}
+
+/// What a file holds.
+fn fetched<S: Store>(alloc: Global, name: &str, store: &mut S) -> Result<Vec<u8>, Stop>
+    ensures ok { IfOk result (λ v. FileTold (S.told store.old) name.now v.items) }
+    ensures err { IfErr result (StopsAtFile (LongFileTold (S.told store.old) name.now)
+        (Rose (S.faults store.old) (S.faults store.new) × (S.last_failed store.new ≡ name.now)) name.now) }
+    ensures kept { OnOk result (S.faults store.new ≡ S.faults store.old) }
+    ensures same_files { S.told store.new ≡ S.told store.old }
+{
+    match store.fetch(alloc, name) {
+        Ok(bytes) => Ok(bytes),
+        Err(StoreFault::Failed) => Err(unread_stop(alloc, name)),
+        Err(StoreFault::TooLong) => Err(too_long_stop(alloc, name)),
+        Err(StoreFault::Memory) => Err(Stop::NoMemory),
+    }
+}
+
+/// The netlist that bytes say, where they pass every check.
+fn netlist_of_bytes(alloc: Global, bytes: &[u8]) -> Result<Accepted, Stop>
+    ensures ok { IfOk result (λ a. IsNetlist bytes.now a.netlist) }
+    ensures levelled { IfOk result (λ a. IsLevelled (netlist_of a.netlist) a.levels) }
+    ensures err { IfErr result (StopsBy (FailsNetlist bytes.now)) }
+{
+    let raw = match read_netlist(alloc, bytes) {
+        Ok(raw) => raw,
+        Err(fault) => return Err(json_stop(alloc, fault)),
+    };
+    let netlist = match build(alloc, raw) {
+        Ok(netlist) => netlist,
+        Err(fault) => return Err(build_stop(alloc, fault)),
+    };
+    match levels(alloc, &netlist) {
+        Ok(levels) => Ok(Accepted { netlist, levels }),
+        Err(LevelFault::Loop(cells)) => Err(loop_stop(alloc, &netlist, cells.items())),
+        Err(LevelFault::Memory) => Err(Stop::NoMemory),
+    }
+}
+
+/// The netlist of a file.
+pub(crate) fn netlist_file<S: Store>(
+    alloc: Global,
+    name: &str,
+    store: &mut S,
+) -> Result<Accepted, Stop>
+    ensures ok { IfOk result (λ a. NetlistTold (S.told store.old) name.now a.netlist) }
+    ensures levelled { IfOk result (λ a. IsLevelled (netlist_of a.netlist) a.levels) }
+    ensures err { IfErr result (StopsAtFile (NetlistRefused (S.told store.old) name.now)
+        (Rose (S.faults store.old) (S.faults store.new) × (S.last_failed store.new ≡ name.now)) name.now) }
+    ensures kept { OnOk result (S.faults store.new ≡ S.faults store.old) }
+    ensures same_files { S.told store.new ≡ S.told store.old }
+{
+    let bytes = fetched(alloc, name, store)?;
+    netlist_of_bytes(alloc, &bytes)
+}
+
+/// The stimulus that bytes say, for a netlist.
+fn stimulus_of_bytes(alloc: Global, netlist: &Netlist, bytes: &[u8]) -> Result<Stimulus, Stop>
+    ensures ok { IfOk result (λ s. stimulus_read (netlist_of netlist.now) bytes.now ≡ Some s) }
+    ensures err { IfErr result (StopsBy (λ r.
+        (stimulus_read (netlist_of netlist.now) bytes.now ≡ None) × (not_built ≡ r))) }
+{
+    match read_stimulus(alloc, netlist, bytes) {
+        Ok(stimulus) => Ok(stimulus),
+        Err(StimFault::NotBuilt) => Err(not_built_stop(alloc)),
+        Err(StimFault::Memory) => Err(Stop::NoMemory),
+    }
+}
+
+/// The stimulus of a file, for a netlist.
+pub(crate) fn stimulus_file<S: Store>(
+    alloc: Global,
+    name: &str,
+    netlist: &Netlist,
+    store: &mut S,
+) -> Result<Stimulus, Stop>
+    ensures ok { IfOk result (λ s. StimulusTold (S.told store.old) name.now (netlist_of netlist.now) s) }
+    ensures cycles { IfOk result (λ s. 0 < s.cycles) }
+    ensures err { IfErr result (StopsAtFile
+        (StimulusRefused (S.told store.old) name.now (netlist_of netlist.now))
+        (Rose (S.faults store.old) (S.faults store.new) × (S.last_failed store.new ≡ name.now)) name.now) }
+    ensures same_files { S.told store.new ≡ S.told store.old }
+{
+    let bytes = fetched(alloc, name, store)?;
+    stimulus_of_bytes(alloc, netlist, &bytes)
+}
