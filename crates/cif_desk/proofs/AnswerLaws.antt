@@ -18,7 +18,7 @@ use Rattle.cif_desk.specs.Refusals.{Refusal, line_of}
 use Rattle.cif_desk.specs.Permitted.{HoldsNetlist, RefusesNetlist, HoldsStimulus, NetlistTold, NetlistRefused, StimulusTold, StimulusRefused, check_text, text, refused, netlist_refused, checked, stimulus_refused, evaluated, IsAllowed, IsDue, netlist_word, stimulus_word}
 use Rattle.cif_desk.specs.Ends.{WritesOut, TellsRefusal, KeepsApart, EvaluatesApart}
 use Rattle.cif_desk.specs.Stops.{StopsAtFile, StopsWriting, HasCause, end_status, stop_status}
-use Rattle.cif_desk.specs.Stubs.{CaseOf, net_of}
+use Rattle.cif_seq.specs.Cases.{CaseOf, net_of}
 use Rattle.cif_desk.specs.declared.stop.Stop.{Stop}
 use Rattle.cif_desk.specs.declared.stop.Stop.TheVariants.{Usage, Refused, Unread, Unwritten, NoMemory}
 use Rattle.cif_desk.proofs.CycleLaws.{Rose-since}

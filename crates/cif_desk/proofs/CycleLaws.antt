@@ -8,7 +8,7 @@ use Rattle.cif_defs.specs.Netlist.{Netlist}
 use Rattle.cif_defs.specs.Stimulus.{Stimulus}
 use Rattle.cif_defs.specs.EvalText.{cycle_text, done_line, eval_text}
 use Rattle.cif_desk.specs.Stops.{StopsWriting}
-use Rattle.cif_desk.specs.Stubs.{CaseOf, FrameOf, net_of, frame_of}
+use Rattle.cif_seq.specs.Cases.{CaseOf, FrameOf, net_of, frame_of}
 use Rattle.cif_desk.specs.declared.stop.Stop.{Stop}
 use Rattle.cif_desk.specs.declared.stop.Stop.TheVariants.{Usage, Refused, Unread, Unwritten, NoMemory}
 

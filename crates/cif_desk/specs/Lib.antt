@@ -5,5 +5,4 @@ pub mod Pieces
 pub mod Permitted
 pub mod Ends
 pub mod Stops
-pub mod Stubs
 pub mod Shown

@@ -1,8 +1,8 @@
 // The commands: files fetched, words matched and texts written stand here alone.
-ghost use Rattle.std.specs.Prelude.{◌≡◌, ◌≤◌, ◌⊎◌, ◌<◌, ℕ, false, map, string_bytes, Some, None, IsSome, IfOk, IfErr, OnOk, Err};
+ghost use Rattle.std.specs.Prelude.{◌≡◌, ◌≤◌, ◌⊎◌, ◌<◌, ℕ, Some, None, IsSome, IfOk, IfErr, OnOk, Err};
 ghost use Rattle.cif_io.specs.Outside.{Rose};
 ghost use Rattle.cif_defs.specs.Accepted.{netlist_of};
-ghost use Rattle.cif_desk.specs.Commands.{check as checks, eval as evaluates, may_wait};
+ghost use Rattle.cif_desk.specs.Commands.{check as checks, eval as evaluates};
 ghost use Rattle.cif_desk.specs.CommandView.{asked_by};
 ghost use Rattle.cif_desk.specs.Permitted.{check_text as text_of_check, IsDue};
 ghost use Rattle.cif_desk.specs.Ends.{WritesOut, WritesErr, EvaluatesApart};
@@ -12,10 +12,10 @@ use crate::command::{Command, asked};
 use crate::evaluation::{write, write_cycles};
 use crate::files::{netlist_file, stimulus_file};
 use crate::stop::Stop;
-use crate::stubs::{Case, state_bits_of};
 use crate::text::{Piece, push_all};
 use cif_cells::Netlist;
-use cif_io::{Sink, Store, write_all};
+use cif_io::{Gate, Sink, Store, write_all};
+use cif_seq::Case;
 use std::alloc::{AllocError, Global};
 use std::sync::Arc;
 
@@ -29,7 +29,7 @@ fn check_text(alloc: Global, netlist: &Netlist) -> Result<Vec<u8>, AllocError>
         Piece::Plain(" bits "),
         Piece::Number(u64::from(netlist.bits())),
         Piece::Plain(" state "),
-        Piece::Number(state_bits_of(netlist)?),
+        Piece::Number(netlist.state_bits()),
         Piece::Plain("\n"),
     ];
     let mut text = Vec::new(alloc);
@@ -140,7 +140,6 @@ pub fn quiet<S: Store, W: Sink, E: Sink>(
     out: &mut W,
     err: &mut E,
 ) -> u8
-    requires { may_wait (map string_bytes words.now) ≡ false }
     ensures range { result ≤ 5 }
 
     // Usage comes exactly where the words fit no form, unless err fails to take its line.
@@ -169,4 +168,43 @@ pub fn quiet<S: Store, W: Sink, E: Sink>(
         Ok(()) => 0,
         Err(stop) => tell(err, &stop),
     }
+}
+
+/// The call that the program makes: does what the words ask, as `quiet` does. The runtime is what threads will be
+/// started by, and the gate what is told of the steps of workers and sessions; there are none yet, so neither is asked
+/// for anything, and the call always returns.
+pub fn cellift<S: Store, W: Sink, E: Sink, G: Gate + Sync, R>(
+    _rt: &R,
+    alloc: Global,
+    words: &[String],
+    store: &mut S,
+    out: &mut W,
+    err: &mut E,
+    _gate: &G,
+) -> u8
+    ensures range { result ≤ 5 }
+
+    // Usage comes exactly where the words fit no form, unless err fails to take its line.
+    ensures usage_only { result ≡ 1 → asked_by words.now ≡ None }
+    ensures usage { asked_by words.now ≡ None → (result ≡ 1) ⊎ (result ≡ 4) }
+
+    // A fault comes only where a count rose, and a read fault only at a file word that is due.
+    ensures read_fault { result ≡ 3 → Rose (S.faults store.old) (S.faults store.new)
+        × IsDue (S.told store.old) (asked_by words.now) (S.last_failed store.new) }
+    ensures write_fault { result ≡ 4 → Rose (W.faults out.old) (W.faults out.new)
+        ⊎ Rose (E.faults err.old) (E.faults err.new) }
+    ensures memory { result ≡ 5 → IsSome (asked_by words.now) }
+    ensures complete { IsSome (asked_by words.now) → ¬ Rose (S.faults store.old) (S.faults store.new)
+        → ¬ Rose (W.faults out.old) (W.faults out.new) → ¬ Rose (E.faults err.old) (E.faults err.new)
+        → (result ≡ 0) ⊎ ((result ≡ 2) ⊎ (result ≡ 5)) }
+
+    // Out takes a permitted text, a beginning of one, or nothing; err takes nothing, or one line.
+    ensures out { WritesOut (S.told store.old) (asked_by words.now) result
+        (W.taken out.old) (W.taken out.new) }
+    ensures err { WritesErr (S.told store.old) (asked_by words.now) (S.last_failed store.new) result
+        (E.taken err.old) (E.taken err.new) }
+
+    ensures noninterference { result ≡ 0 → EvaluatesApart (S.told store.old) (asked_by words.now) }
+{
+    quiet(alloc, words, store, out, err)
 }

@@ -8,13 +8,13 @@ ghost use Rattle.cif_defs.specs.EvalText.{port_line, cycle_head, cycle_text as t
 ghost use Rattle.cif_io.specs.Outside.{Rose, Appends};
 ghost use Rattle.cif_desk.specs.Stops.{StopsWriting};
 ghost use Rattle.cif_desk.specs.Shown.{AreInside};
-ghost use Rattle.cif_desk.specs.Stubs.{net_of};
+ghost use Rattle.cif_seq.specs.Cases.{net_of};
 
 use crate::stop::Stop;
-use crate::stubs::{Case, Frame, first_frame, next_frame};
 use crate::text::{push_name, push_number};
 use cif_cells::{Src, Wire};
 use cif_io::{Sink, write_all};
+use cif_seq::{Case, Frame, first_frame, next_frame};
 use cif_stim::Pair;
 use std::alloc::{AllocError, Global};
 use std::sync::Arc;

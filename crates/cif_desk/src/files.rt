@@ -12,12 +12,11 @@ use crate::refusal::{
     build_stop, json_stop, loop_stop, not_built_stop, too_long_stop, unread_stop,
 };
 use crate::stop::Stop;
-use crate::stubs::{build, read_stimulus};
 use cif_cells::Netlist;
 use cif_io::{Store, StoreFault};
 use cif_json::read_netlist;
 use cif_level::{LevelFault, Levels, levels};
-use cif_stim::{StimFault, Stimulus};
+use cif_stim::{StimFault, Stimulus, read_stimulus};
 use std::alloc::Global;
 
 /// A netlist that was accepted, and the order in which its cells are evaluated.
@@ -53,7 +52,7 @@ fn netlist_of_bytes(alloc: Global, bytes: &[u8]) -> Result<Accepted, Stop>
         Ok(raw) => raw,
         Err(fault) => return Err(json_stop(alloc, fault)),
     };
-    let netlist = match build(alloc, raw) {
+    let netlist = match Netlist::build(alloc, raw) {
         Ok(netlist) => netlist,
         Err(fault) => return Err(build_stop(alloc, fault)),
     };

@@ -7,8 +7,9 @@ mod evaluation;
 mod files;
 mod refusal;
 mod stop;
-mod stubs;
+#[cfg(test)]
+mod tests;
 mod text;
 
 pub use command::waits;
-pub use desk::quiet;
+pub use desk::{cellift, quiet};

@@ -3,7 +3,7 @@ use Rattle.std.specs.List.{flat_map}
 use Rattle.cif_defs.specs.EvalText.{cycle_head, port_line, cycle_text}
 use Rattle.cif_defs.specs.declared.nets.Wire.{Wire}
 use Rattle.cif_desk.specs.Shown.{AreInside}
-use Rattle.cif_desk.specs.Stubs.{net_of}
+use Rattle.cif_seq.specs.Cases.{net_of}
 use Rattle.cif_desk.proofs.TextLaws.{flat_map_done}
 use Rattle.cif_desk.proofs.ShownLaws.{outputs_inside}
 use Rattle.cif_desk.proofs.evaluation.cycle_text.Goals as goal

@@ -1,7 +1,7 @@
 use Rattle.std.proofs.Common.{◌≡◌, ◌++◌, take}
 use Rattle.std.specs.List.{flat_map}
 use Rattle.cif_defs.specs.EvalText.{cycle_head, port_line}
-use Rattle.cif_desk.specs.Stubs.{net_of}
+use Rattle.cif_seq.specs.Cases.{net_of}
 use Rattle.cif_desk.proofs.evaluation.cycle_text.Given as goal
 
 abbrev pub invariant-loop-port : goal.invariant-loop-port

@@ -1,7 +1,7 @@
 use Rattle.std.proofs.Common.{◌≡◌, ◌++◌, map, take, reverse}
 use Rattle.cif_defs.specs.WordText.{byte_of_bit}
 use Rattle.cif_defs.specs.Run.{value, src_word}
-use Rattle.cif_desk.specs.Stubs.{net_of}
+use Rattle.cif_seq.specs.Cases.{net_of}
 use Rattle.cif_desk.proofs.evaluation.push_values.Given as goal
 
 abbrev pub invariant-loop-i : goal.invariant-loop-i

@@ -3,7 +3,7 @@ use Rattle.std.proofs.lemmas.Result.{err_from_is_err_and, IfErr-weaker, on_ok_we
 use Rattle.cif_io.specs.Outside.{Rose, Appends, AppendsPrefix}
 use Rattle.cif_io.proofs.OutsideLaws.{AppendsPrefix-nothing, Appends-nothing, Appends-same, AppendsPrefix-same}
 use Rattle.cif_defs.specs.EvalText.{done_line}
-use Rattle.cif_desk.specs.Stubs.{CaseOf, FrameOf, frame_of, net_of}
+use Rattle.cif_seq.specs.Cases.{CaseOf, FrameOf, frame_of, net_of}
 use Rattle.cif_desk.proofs.CycleLaws.{StopsWriting-later, after, Rose-since, frame_written, frame_broken, cycles_stopped, text_written, last_broken}
 use Rattle.cif_desk.proofs.evaluation.write_cycles.Goals as goal
 

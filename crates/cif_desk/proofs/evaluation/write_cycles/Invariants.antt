@@ -2,7 +2,7 @@ use Rattle.std.proofs.Common.{◌≡◌, ◌+◌}
 use Rattle.std.specs.List.{flat_map, range_with_len}
 use Rattle.cif_defs.specs.EvalText.{cycle_text}
 use Rattle.cif_io.specs.Outside.{Appends}
-use Rattle.cif_desk.specs.Stubs.{net_of}
+use Rattle.cif_seq.specs.Cases.{net_of}
 use Rattle.cif_desk.proofs.evaluation.write_cycles.Given as goal
 
 abbrev pub invariant-loop-cycle : goal.invariant-loop-cycle
