@@ -3,9 +3,8 @@
 
 use cif_desk::cellift;
 use cif_io::{FileStore, Open, StdSink};
-use std::env;
-use std::io;
 use std::process::ExitCode;
+use std::{env, io};
 
 /// The words after the program's name.
 fn words(rt: &HostRuntime) -> io::Result<Vec<String>> {

@@ -1,7 +1,7 @@
 -- What commands leave, by the way in which they end.
-use Rattle.std.specs.Prelude.{ℕ, ◌<◌, ◌≤◌, ◌≡◌, ◌⊎◌, Bool, true, false, List, [], ◌∷◌, ◌++◌, Option, Some, None, IsSome, Result, Ok, Err, OnOk, IfErr, refl}
-use Rattle.std.proofs.Common.{arith, ap, sym, subst, inl, inr, ◌∙◌, append-nil}
-use Rattle.cif_io.specs.Outside.{Files, Rose, Appends, AppendsPrefix}
+use Rattle.std.specs.Prelude.{ℕ, ◌≤◌, ◌≡◌, List, [], ◌++◌, Option, Some, Result, Ok, Err, OnOk, IfErr, refl}
+use Rattle.std.proofs.Common.{arith, ap, sym, subst, inl, inr, ◌∙◌}
+use Rattle.cif_io.specs.Outside.{Files, Appends, AppendsPrefix}
 use Rattle.cif_io.proofs.OutsideLaws.{Appends-nothing}
 use Rattle.cif_defs.specs.Netlist.{Netlist}
 use Rattle.cif_defs.specs.Stimulus.{Stimulus}
@@ -14,14 +14,13 @@ use Rattle.cif_defs.proofs.Noninterference.{noninterference}
 use Rattle.cif_cells.proofs.Wired.{wired}
 use Rattle.cif_json.specs.Answers.{ComesTo}
 use Rattle.cif_desk.specs.Commands.{Command, check, eval, net_word}
-use Rattle.cif_desk.specs.Refusals.{Refusal, line_of}
-use Rattle.cif_desk.specs.Permitted.{HoldsNetlist, RefusesNetlist, HoldsStimulus, NetlistTold, NetlistRefused, StimulusTold, StimulusRefused, check_text, text, refused, netlist_refused, checked, stimulus_refused, evaluated, IsAllowed, IsDue, netlist_word, stimulus_word}
-use Rattle.cif_desk.specs.Ends.{WritesOut, TellsRefusal, KeepsApart, EvaluatesApart}
+use Rattle.cif_desk.specs.Refusals.{Refusal}
+use Rattle.cif_desk.specs.Permitted.{HoldsNetlist, RefusesNetlist, NetlistTold, NetlistRefused, StimulusTold, StimulusRefused, check_text, text, netlist_refused, checked, stimulus_refused, evaluated, IsAllowed, IsDue, netlist_word, stimulus_word}
+use Rattle.cif_desk.specs.Ends.{WritesOut, EvaluatesApart}
 use Rattle.cif_desk.specs.Stops.{StopsAtFile, StopsWriting, HasCause, end_status, stop_status}
 use Rattle.cif_seq.specs.Cases.{CaseOf, net_of}
 use Rattle.cif_desk.specs.declared.stop.Stop.{Stop}
 use Rattle.cif_desk.specs.declared.stop.Stop.TheVariants.{Usage, Refused, Unread, Unwritten, NoMemory}
-use Rattle.cif_desk.proofs.CycleLaws.{Rose-since}
 
 -- ---- out
 
@@ -81,7 +80,6 @@ out_at_file P fault name told asked old new NoMemory h e = out_nothing told aske
 -- ---- commands
 
 module _ (told : Option Files) (net : List ℕ) (raw : Raw) (netlist : NetlistTold told net raw) where
-
   check_allowed : (bytes : List ℕ) → bytes ≡ check_text (netlist_of raw) → IsAllowed told (Some (check net)) (text bytes)
   check_allowed bytes e = allowed_along told (Some (check net)) bytes (check_text (netlist_of raw)) e (λ files t. checked net raw (netlist.holds files t))
 
@@ -130,13 +128,15 @@ due_along told asked name failed e h = let P : List ℕ → Type 0 = IsDue told 
 pub cause_at_netlist : (told : Option Files) (c : Command) (name failed : List ℕ) (rose write_fault : Type 0) (stop : Stop) → net_word c ≡ name → StopsAtFile (NetlistRefused told name) (rose × (failed ≡ name)) name stop → HasCause told (Some c) failed rose write_fault stop
 cause_at_netlist told c name failed rose write_fault Usage e h = absurd h
 cause_at_netlist told c name failed rose write_fault (Refused line) e h = (
-    h.0,
-    (λ files t. netlist_refused c h.0 (let P : List ℕ → Type 0 = λ w. RefusesNetlist files w h.0 in subst P (sym e) (h.1.refuses files t))),
-    h.2)
+  h.0,
+  (λ files t. netlist_refused c h.0 (let P : List ℕ → Type 0 = λ w. RefusesNetlist files w h.0 in subst P (sym e) (h.1.refuses files t))),
+  h.2,
+)
 cause_at_netlist told c name failed rose write_fault (Unread line) e h = (
-    h.0.0,
-    due_along told (Some c) (net_word c) failed (h.0.1 ∙ sym e) (netlist_word c),
-    h.1 ∙ ap read_fault_line (sym h.0.1))
+  h.0.0,
+  due_along told (Some c) (net_word c) failed (h.0.1 ∙ sym e) (netlist_word c),
+  h.1 ∙ ap read_fault_line (sym h.0.1),
+)
 cause_at_netlist told c name failed rose write_fault Unwritten e h = absurd h
 cause_at_netlist told c name failed rose write_fault NoMemory e h = tt
 
@@ -144,13 +144,15 @@ cause_at_netlist told c name failed rose write_fault NoMemory e h = tt
 pub cause_at_stimulus : (told mid : Option Files) (net stim failed : List ℕ) (raw : Raw) (rose later write_fault : Type 0) (stop : Stop) → mid ≡ told → (rose → later) → NetlistTold told net raw → StopsAtFile (StimulusRefused mid stim (netlist_of raw)) (rose × (failed ≡ stim)) stim stop → HasCause told (Some (eval net stim)) failed later write_fault stop
 cause_at_stimulus told mid net stim failed raw rose later write_fault Usage e f netlist h = absurd h
 cause_at_stimulus told mid net stim failed raw rose later write_fault (Refused line) e f netlist h = (
-    h.0,
-    (λ files t. stimulus_refused net stim raw h.0 (netlist.holds files t) (h.1.refuses files (e ∙ t))),
-    h.2)
+  h.0,
+  (λ files t. stimulus_refused net stim raw h.0 (netlist.holds files t) (h.1.refuses files (e ∙ t))),
+  h.2,
+)
 cause_at_stimulus told mid net stim failed raw rose later write_fault (Unread line) e f netlist h = (
-    f h.0.0,
-    due_along told (Some (eval net stim)) stim failed h.0.1 (stimulus_word net stim (λ files t. (raw, netlist.holds files t))),
-    h.1 ∙ ap read_fault_line (sym h.0.1))
+  f h.0.0,
+  due_along told (Some (eval net stim)) stim failed h.0.1 (stimulus_word net stim (λ files t. (raw, netlist.holds files t))),
+  h.1 ∙ ap read_fault_line (sym h.0.1),
+)
 cause_at_stimulus told mid net stim failed raw rose later write_fault Unwritten e f netlist h = absurd h
 cause_at_stimulus told mid net stim failed raw rose later write_fault NoMemory e f netlist h = tt
 

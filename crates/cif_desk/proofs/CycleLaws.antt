@@ -1,9 +1,9 @@
 -- Texts of cycles, one after another.
-use Rattle.std.specs.Prelude.{ℕ, zero, suc, ◌+◌, ◌-◌, ◌<◌, ◌≤◌, ◌≡◌, List, [], ◌∷◌, ◌++◌, Option, refl}
+use Rattle.std.specs.Prelude.{ℕ, zero, suc, ◌+◌, ◌<◌, ◌≤◌, ◌≡◌, List, ◌++◌, Option, refl}
 use Rattle.std.specs.List.{range_with_len, flat_map}
 use Rattle.std.proofs.Common.{arith, ap, sym, subst, ◌∙◌, append_assoc, append-nil}
 use Rattle.cif_io.specs.Outside.{Rose, Appends, AppendsPrefix}
-use Rattle.cif_io.proofs.OutsideLaws.{Appends-same, Appends-join, AppendsPrefix-whole, AppendsPrefix-front, AppendsPrefix-join, AppendsPrefix-more, AppendsPrefix-nothing, AppendsPrefix-same}
+use Rattle.cif_io.proofs.OutsideLaws.{Appends-same, Appends-join, AppendsPrefix-front, AppendsPrefix-join, AppendsPrefix-more, AppendsPrefix-same}
 use Rattle.cif_defs.specs.Netlist.{Netlist}
 use Rattle.cif_defs.specs.Stimulus.{Stimulus}
 use Rattle.cif_defs.specs.EvalText.{cycle_text, done_line, eval_text}

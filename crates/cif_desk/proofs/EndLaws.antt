@@ -1,5 +1,5 @@
 -- What a call leaves once it has told its end.
-use Rattle.std.specs.Prelude.{ℕ, ◌≤◌, [], List, Option, refl}
+use Rattle.std.specs.Prelude.{ℕ, [], List, Option, refl}
 use Rattle.std.proofs.Common.{arith}
 use Rattle.cif_io.specs.Outside.{Files}
 use Rattle.cif_io.proofs.OutsideLaws.{Appends-nothing}

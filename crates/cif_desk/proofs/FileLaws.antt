@@ -10,12 +10,12 @@ use Rattle.cif_defs.specs.Text.{words_of, lines_of, number_read}
 use Rattle.cif_defs.specs.StimulusText.{stimulus_read, stimulus_by_lines, cycles_read, is_cycle_count, lines_read, no_group}
 use Rattle.cif_defs.specs.Loop.{IsLoop}
 use Rattle.cif_defs.specs.declared.raw_module.Raw.{Raw}
-use Rattle.cif_cells.specs.Checks.{build_fault, IsAccepted, IsFirst}
+use Rattle.cif_cells.specs.Checks.{IsAccepted, IsFirst}
 use Rattle.cif_cells.specs.declared.fault.BuildFault.{BuildFault}
 use Rattle.cif_cells.specs.declared.fault.BuildFault.TheVariants.{Memory}
 use Rattle.cif_json.specs.Answers.{ComesTo}
-use Rattle.cif_desk.specs.Refusals.{Refusal, build_refusal, loop_refusal, too_long, not_built}
-use Rattle.cif_desk.specs.Permitted.{HoldsFile, HoldsLongFile, FileTold, LongFileTold, IsNetlist, FailsNetlist, looped, HoldsNetlist, RefusesNetlist, long_netlist, bad_netlist, NetlistTold, NetlistRefused, HoldsStimulus, RefusesStimulus, long_stimulus, bad_stimulus, StimulusTold, StimulusRefused}
+use Rattle.cif_desk.specs.Refusals.{Refusal, build_refusal, loop_refusal, not_built}
+use Rattle.cif_desk.specs.Permitted.{FileTold, LongFileTold, IsNetlist, FailsNetlist, looped, long_netlist, bad_netlist, NetlistTold, NetlistRefused, long_stimulus, bad_stimulus, StimulusTold, StimulusRefused}
 use Rattle.cif_desk.specs.Stops.{StopsBy, StopsAtFile}
 use Rattle.cif_desk.specs.declared.stop.Stop.{Stop}
 use Rattle.cif_desk.specs.declared.stop.Stop.TheVariants.{Usage, Refused, Unread, Unwritten, NoMemory}

@@ -6,7 +6,6 @@ use Rattle.std.proofs.Common.{sym, ◌∙◌, ap, subst}
 use Rattle.cif_desk.specs.Refusals.{Refusal, line_of}
 use Rattle.cif_desk.specs.Stops.{IsStopOf, StopsBy}
 use Rattle.cif_desk.specs.declared.stop.Stop.{Stop}
-use Rattle.cif_desk.specs.declared.stop.Stop.TheVariants.{Usage, Refused, Unread, Unwritten, NoMemory}
 
 -- the line of a refusal, where there is one
 pub some_line : (found : Option Refusal) (line : List ℕ) → option_map line_of found ≡ Some line → (r : Refusal) × (found ≡ Some r) × (line ≡ line_of r)

@@ -1,5 +1,5 @@
 -- What is shown of bits that are read, and that these are net bits of the netlist.
-use Rattle.std.specs.Prelude.{ℕ, zero, suc, ◌+◌, ◌-◌, ◌<◌, ◌≤◌, ◌≡◌, ◌⊎◌, Bool, true, false, List, [], ◌∷◌, ◌++◌, map, filter, length, get_or, take, reverse, refl, if◌then◌else◌}
+use Rattle.std.specs.Prelude.{ℕ, zero, suc, ◌+◌, ◌-◌, ◌<◌, ◌≤◌, ◌≡◌, Bool, true, false, List, [], ◌∷◌, ◌++◌, map, filter, length, get_or, take, reverse, refl, if◌then◌else◌}
 use Rattle.std.specs.List.{flat_map}
 use Rattle.std.proofs.Common.{arith, ap, sym, subst, inl, inr, ◌∙◌, append_assoc}
 use Rattle.std.proofs.lemmas.List.{length-map, length-reverse, take_more, take_all, get_or-reverse, map-append}
@@ -9,9 +9,8 @@ use Rattle.cif_defs.specs.Run.{src_bit, src_word}
 use Rattle.cif_defs.specs.TaintRun.{src_taint, taint_word}
 use Rattle.cif_defs.specs.RawModule.{nets_in, numbers_held, net_numbers, operand_bits, output_bits, clock_bits}
 use Rattle.cif_defs.specs.Accepted.{netlist_of, is_output, wire_of, source, place_of, driver_of_number}
-use Rattle.cif_defs.specs.Netlist.{no_wire}
 use Rattle.cif_defs.specs.declared.nets.Src.{Src}
-use Rattle.cif_defs.specs.declared.nets.Src.TheVariants.{Bit, Zero, One}
+use Rattle.cif_defs.specs.declared.nets.Src.TheVariants.{Bit, Zero}
 use Rattle.cif_defs.specs.declared.nets.Wire.{Wire}
 use Rattle.cif_defs.specs.declared.raw_module.RawBit.{RawBit}
 use Rattle.cif_defs.specs.declared.raw_module.RawBit.TheVariants.{Net, Zero as ZeroText, One as OneText, X, Z}
@@ -52,9 +51,9 @@ digit_push w i b old text new h before e q =
     q ∙ ap (λ (t : List ℕ). t ++ byte_of_bit b ∷ []) before
     ∙ append_assoc old (map byte_of_bit (take i (reverse w))) (byte_of_bit b ∷ [])
     ∙ ap (λ (t : List ℕ). old ++ t) (
-        ap (λ (c : Bool). map byte_of_bit (take i (reverse w)) ++ byte_of_bit c ∷ []) (sym last)
-        ∙ sym (map-append byte_of_bit (take i (reverse w)) (get_or (reverse w) i false ∷ []))
-        ∙ ap (map byte_of_bit) (sym (take_more (reverse w) i false inside)))
+    ap (λ (c : Bool). map byte_of_bit (take i (reverse w)) ++ byte_of_bit c ∷ []) (sym last)
+    ∙ sym (map-append byte_of_bit (take i (reverse w)) (get_or (reverse w) i false ∷ []))
+    ∙ ap (map byte_of_bit) (sym (take_more (reverse w) i false inside)))
 
 digits_done : (w : Word) (i : ℕ) (old text : List ℕ) → length w ≤ i → text ≡ old ++ map byte_of_bit (take i (reverse w)) → text ≡ old ++ text_of w
 digits_done w i old text h e = e ∙ ap (λ (t : Word). old ++ map byte_of_bit t) (take_all i (reverse w) (omega (arith, length-reverse w)))
@@ -92,7 +91,7 @@ unfolding net_numbers
 number_shown raw port x p h =
     let at = At-has raw.ports port p in
     Has-rising (numbers_held raw) x (Has-left (flat_map (λ (q : RawPort). nets_in q.bits) raw.ports) (flat_map (λ (c : RawCell). nets_in (operand_bits c) ++ nets_in (output_bits c) ++ nets_in (clock_bits c)) raw.cells) x
-      (Has-flat_map (λ (q : RawPort). nets_in q.bits) raw.ports at.0 port x at.1 h))
+    (Has-flat_map (λ (q : RawPort). nets_in q.bits) raw.ports at.0 port x at.1 h))
 
 -- a net bit that is read stands for a net number
 source_number : (ns : List ℕ) (bit : RawBit) (b : ℕ) → source ns bit ≡ Bit b → (x : ℕ) × (bit ≡ Net x) × (place_of ns x ≡ b)

@@ -1,6 +1,6 @@
 -- What a call leaves, by the status that it ends with: 0 the whole text, 1 usage, 2 a refusal, 3 a read fault, 4 a write
 -- fault, 5 want of memory.
-use Rattle.std.specs.Prelude.{ℕ, ◌<◌, ◌≤◌, ◌≡◌, ◌⊎◌, false, List, [], ◌++◌, Option, Some, None, IsSome}
+use Rattle.std.specs.Prelude.{ℕ, ◌≤◌, ◌≡◌, ◌⊎◌, false, List, [], ◌++◌, Option, Some, None, IsSome}
 use Rattle.cif_io.specs.Outside.{Files, Appends}
 use Rattle.cif_defs.specs.Accepted.{netlist_of}
 use Rattle.cif_defs.specs.Netlist.{Netlist}
@@ -12,7 +12,7 @@ use Rattle.cif_defs.specs.Messages.{usage_line, read_fault_line, write_fault_lin
 use Rattle.cif_defs.specs.declared.raw_module.Raw.{Raw}
 use Rattle.cif_desk.specs.Commands.{Command, check, eval}
 use Rattle.cif_desk.specs.Refusals.{Refusal, line_of}
-use Rattle.cif_desk.specs.Permitted.{Answer, refused, text, IsAllowed, IsDue, HoldsNetlist, HoldsStimulus}
+use Rattle.cif_desk.specs.Permitted.{refused, text, IsAllowed, IsDue, HoldsNetlist, HoldsStimulus}
 
 -- ---- out
 

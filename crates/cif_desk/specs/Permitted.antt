@@ -1,5 +1,5 @@
 -- What a command line may come to, by the files that its words name.
-use Rattle.std.specs.Prelude.{ℕ, ◌+◌, ◌<◌, ◌≤◌, ◌≡◌, List, [], ◌∷◌, ◌++◌, map, sum, length, codes, Option, Some, None, Ok}
+use Rattle.std.specs.Prelude.{ℕ, ◌<◌, ◌≤◌, ◌≡◌, List, [], ◌∷◌, map, sum, length, codes, Option, Some, None, Ok}
 use Rattle.std.specs.Fmt.{decimal}
 use Rattle.cif_io.specs.Outside.{Files, file_named, file_limit}
 use Rattle.cif_defs.specs.Text.{line_end}

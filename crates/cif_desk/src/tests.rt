@@ -109,12 +109,23 @@ fn register_three_cycles(rt: HostRuntime) -> Result<(), Fail> {
         out: "cycle 0\nq 00/00\ncycle 1\nq 01/10\ncycle 2\nq 11/00\ndone 3\n",
         err: "",
     };
-    assert_ends(&rt, rt.alloc(), "eval net stim", &[("net", REGISTER), ("stim", stim)], wanted)
+    assert_ends(
+        &rt,
+        rt.alloc(),
+        "eval net stim",
+        &[("net", REGISTER), ("stim", stim)],
+        wanted,
+    )
 }
 
 #[test]
 fn check_register(rt: HostRuntime) -> Result<(), Fail> {
-    assert_accepted(&rt, rt.alloc(), REGISTER, "accepted cells 1 bits 5 state 2\n")
+    assert_accepted(
+        &rt,
+        rt.alloc(),
+        REGISTER,
+        "accepted cells 1 bits 5 state 2\n",
+    )
 }
 
 const AND: &str = r#"{"modules":{"m":{
@@ -172,13 +183,23 @@ fn not_json(rt: HostRuntime) -> Result<(), Fail> {
     for net in [r#"{"modules":{"m":"#, ""] {
         assert_refused(&rt, rt.alloc(), net, "refused 1: not JSON\n")?;
     }
-    assert_refused(&rt, rt.alloc(), r#"{"modules":{}}"#, "refused 2: no modules\n")
+    assert_refused(
+        &rt,
+        rt.alloc(),
+        r#"{"modules":{}}"#,
+        "refused 2: no modules\n",
+    )
 }
 
 #[test]
 fn shape_and_top(rt: HostRuntime) -> Result<(), Fail> {
     let net = r#"{"modules":{"m":{"ports":{"a":{"direction":"in","bits":[2]}}}}}"#;
-    assert_refused(&rt, rt.alloc(), net, "refused 4: shape at modules/m/ports/a/direction\n")?;
+    assert_refused(
+        &rt,
+        rt.alloc(),
+        net,
+        "refused 4: shape at modules/m/ports/a/direction\n",
+    )?;
     let net = r#"{"modules":{"m":{},"n":{}}}"#;
     assert_refused(&rt, rt.alloc(), net, "refused 3: no top module\n")
 }
@@ -195,7 +216,12 @@ fn x_operand_and(rt: HostRuntime) -> Result<(), Fail> {
  "o1":{"type":"$and",
   "parameters":{"A_SIGNED":"0","A_WIDTH":"11","B_SIGNED":"0","B_WIDTH":"11","Y_WIDTH":"11"},
   "connections":{"A":[2,3,4],"B":["0","1","x"],"Y":[5,6,7]}}}}}}"#;
-    assert_refused(&rt, rt.alloc(), net, "refused 15: x at cell o1 port B bit 2\n")
+    assert_refused(
+        &rt,
+        rt.alloc(),
+        net,
+        "refused 15: x at cell o1 port B bit 2\n",
+    )
 }
 
 #[test]
@@ -215,7 +241,12 @@ fn clocks(rt: HostRuntime) -> Result<(), Fail> {
  "c":{"direction":"input","bits":[2]},"e":{"direction":"input","bits":[3]},"a":{"direction":"input","bits":[4]}},"cells":{
  "d1":{"type":"$dff","parameters":{"CLK_POLARITY":"1","WIDTH":"1"},"connections":{"CLK":[2],"D":[4],"Q":[5]}},
  "d2":{"type":"$dff","parameters":{"CLK_POLARITY":"1","WIDTH":"1"},"connections":{"CLK":[3],"D":[4],"Q":[6]}}}}}}"#;
-    assert_refused(&rt, rt.alloc(), net, "refused 19: second clock at cell d2\n")?;
+    assert_refused(
+        &rt,
+        rt.alloc(),
+        net,
+        "refused 19: second clock at cell d2\n",
+    )?;
     let net = r#"{"modules":{"m":{"ports":{"c":{"direction":"input","bits":[2]}},"cells":{
  "d1":{"type":"$dff","parameters":{"CLK_POLARITY":"1","WIDTH":"1"},"connections":{"CLK":[2],"D":["1"],"Q":[5]}},
  "g1":{"type":"$and",
@@ -229,7 +260,12 @@ fn init_conflict(rt: HostRuntime) -> Result<(), Fail> {
     let net = r#"{"modules":{"m":{"ports":{"c":{"direction":"input","bits":[2]}},"cells":{
  "d1":{"type":"$dff","parameters":{"CLK_POLARITY":"1","WIDTH":"1"},"connections":{"CLK":[2],"D":["1"],"Q":[5]}}},
 "netnames":{"p":{"bits":[5],"attributes":{"init":"0"}},"q":{"bits":[5],"attributes":{"init":"1"}}}}}}"#;
-    assert_refused(&rt, rt.alloc(), net, "refused 22: two initial values for bit 5\n")
+    assert_refused(
+        &rt,
+        rt.alloc(),
+        net,
+        "refused 22: two initial values for bit 5\n",
+    )
 }
 
 #[test]
@@ -259,5 +295,11 @@ fn stimulus_of_another_form(rt: HostRuntime) -> Result<(), Fail> {
         out: "",
         err: "refused 90: not built yet\n",
     };
-    assert_ends(&rt, rt.alloc(), "eval net stim", &[("net", REGISTER), ("stim", stim)], wanted)
+    assert_ends(
+        &rt,
+        rt.alloc(),
+        "eval net stim",
+        &[("net", REGISTER), ("stim", stim)],
+        wanted,
+    )
 }

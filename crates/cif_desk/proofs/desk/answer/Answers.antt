@@ -9,7 +9,7 @@ use Rattle.cif_desk.proofs.desk.answer.Goals as goal
 pub returns-in-Some-Eval-clause-noninterference : goal.returns-in-Some-Eval-clause-noninterference
 returns-in-Some-Eval-clause-noninterference g c =
     let is : asked_by c.args.words.now ≡ Some (eval c.in-Some-Eval.net.now c.in-Some-Eval.stim.now) =
-      sym c.in-Some-Eval.ensures ∙ ap (λ (x : Command). Some (command_seen x)) c.in-Some-Eval.field-0-is in
+    sym c.in-Some-Eval.ensures ∙ ap (λ (x : Command). Some (command_seen x)) c.in-Some-Eval.field-0-is in
     let P : Option CommandData → Type 0 = λ asked. OnOk c.eval.result (EvaluatesApart (g.S.Store.told c.args.store.now) asked) in
     subst P (sym is) c.eval.ensures.noninterference
 

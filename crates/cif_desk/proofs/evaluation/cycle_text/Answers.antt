@@ -1,4 +1,4 @@
-use Rattle.std.proofs.Common.{ℕ, ◌<◌, ◌≤◌, ◌≡◌, ◌++◌, ◌∙◌, sym, ap, subst, List, length, get_or, arith}
+use Rattle.std.proofs.Common.{◌<◌, ◌≤◌, ◌≡◌, ◌++◌, ◌∙◌, sym, ap, subst, List, length, get_or, arith}
 use Rattle.std.specs.List.{flat_map}
 use Rattle.cif_defs.specs.EvalText.{cycle_head, port_line, cycle_text}
 use Rattle.cif_defs.specs.declared.nets.Wire.{Wire}

@@ -1,4 +1,4 @@
-use Rattle.std.proofs.Common.{ℕ, Bool, [], ◌∷◌, ◌++◌, ap, ◌≤◌, ◌<◌, ◌-◌, ◌≡◌, ◌∙◌, length, arith}
+use Rattle.std.proofs.Common.{ℕ, Bool, [], ◌∷◌, ◌++◌, ap, ◌≤◌, ◌-◌, ◌∙◌, length, arith}
 use Rattle.std.proofs.lemmas.List.{get_or_default}
 use Rattle.cif_defs.specs.Run.{value}
 use Rattle.cif_defs.specs.declared.nets.Src.TheVariants.{Bit, Zero}

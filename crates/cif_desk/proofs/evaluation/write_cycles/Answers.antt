@@ -1,6 +1,5 @@
-use Rattle.std.proofs.Common.{ℕ, List, ◌+◌, ◌<◌, ◌≤◌, ◌≡◌, ◌∙◌, sym, ap, subst, refl, arith}
+use Rattle.std.proofs.Common.{◌+◌, ◌<◌, ◌≡◌, ◌∙◌, ap, refl, arith}
 use Rattle.std.proofs.lemmas.Result.{err_from_is_err_and, IfErr-weaker, on_ok_weaker}
-use Rattle.cif_io.specs.Outside.{Rose, Appends, AppendsPrefix}
 use Rattle.cif_io.proofs.OutsideLaws.{AppendsPrefix-nothing, Appends-nothing, Appends-same, AppendsPrefix-same}
 use Rattle.cif_defs.specs.EvalText.{done_line}
 use Rattle.cif_seq.specs.Cases.{CaseOf, FrameOf, frame_of, net_of}
@@ -31,9 +30,9 @@ returns-in_err-write_cycle-2-clause-err g c =
     let next = after c.loop-cycle.frame c.in_ok-frame-2.frame c.args.case.now.value c.loop-cycle.cycle c.loop-cycle.invariant.same_case c.loop-cycle.invariant.next c.in_ok-frame-2.ensures in
     let below : c.loop-cycle.cycle < c.args.case.now.value.stimulus.cycles = omega arith in
     rw (p.1, p.2) (StopsWriting-later _ _ _ _ _ _ _ c.in_err-write_cycle-2.field-0.0
-      (Rose-since _ _ _ c.loop-cycle.invariant.sound)
-      (frame_broken c.in_ok-frame-2.frame c.args.case.now.value c.loop-cycle.cycle next below c.loop-cycle.invariant.written)
-      c.in_err-write_cycle-2.ensures.err)
+    (Rose-since _ _ _ c.loop-cycle.invariant.sound)
+    (frame_broken c.in_ok-frame-2.frame c.args.case.now.value c.loop-cycle.cycle next below c.loop-cycle.invariant.written)
+    c.in_err-write_cycle-2.ensures.err)
 
 pub loop-cycle-preserved : goal.loop-cycle-preserved
 loop-cycle-preserved g c =
@@ -56,7 +55,7 @@ returns-clause-all g c =
     let end : c.cycles-cycle-end.result ≡ c.args.case.now.value.stimulus.cycles = c.cycles-cycle-end.ensures ∙ ap (λ (v : CaseOf). v.stimulus.cycles) c.deref.ensures in
     let all : c.loop-cycle.cycle ≡ c.args.case.now.value.stimulus.cycles = omega (arith, c.requires) in
     let last : c.deref-3.result.now ≡ done_line c.args.case.now.value.stimulus.cycles =
-      c.deref-3.ensures.value ∙ c.in_ok-last.ensures ∙ ap done_line (c.cycles.ensures ∙ ap (λ (v : CaseOf). v.stimulus.cycles) c.deref-2.ensures) in
+    c.deref-3.ensures.value ∙ c.in_ok-last.ensures ∙ ap done_line (c.cycles.ensures ∙ ap (λ (v : CaseOf). v.stimulus.cycles) c.deref-2.ensures) in
     on_ok_weaker c.write.result (λ h. text_written (net_of c.args.case.now.value) c.args.case.now.value.stimulus c.loop-cycle.cycle all c.loop-cycle.invariant.written (Appends-same h last)) c.write.ensures.all
 
 pub returns-clause-err : goal.returns-clause-err
@@ -64,7 +63,7 @@ returns-clause-err g c =
     let end : c.cycles-cycle-end.result ≡ c.args.case.now.value.stimulus.cycles = c.cycles-cycle-end.ensures ∙ ap (λ (v : CaseOf). v.stimulus.cycles) c.deref.ensures in
     let all : c.loop-cycle.cycle ≡ c.args.case.now.value.stimulus.cycles = omega (arith, c.requires) in
     let last : c.deref-3.result.now ≡ done_line c.args.case.now.value.stimulus.cycles =
-      c.deref-3.ensures.value ∙ c.in_ok-last.ensures ∙ ap done_line (c.cycles.ensures ∙ ap (λ (v : CaseOf). v.stimulus.cycles) c.deref-2.ensures) in
+    c.deref-3.ensures.value ∙ c.in_ok-last.ensures ∙ ap done_line (c.cycles.ensures ∙ ap (λ (v : CaseOf). v.stimulus.cycles) c.deref-2.ensures) in
     IfErr-weaker c.write.result _ _ (λ stop h. StopsWriting-later _ _ _ _ _ _ _ stop
-      (Rose-since _ _ _ c.loop-cycle.invariant.sound)
-      (λ part. last_broken (net_of c.args.case.now.value) c.args.case.now.value.stimulus c.loop-cycle.cycle all c.loop-cycle.invariant.written (AppendsPrefix-same part last)) h) c.write.ensures.err
+    (Rose-since _ _ _ c.loop-cycle.invariant.sound)
+    (λ part. last_broken (net_of c.args.case.now.value) c.args.case.now.value.stimulus c.loop-cycle.cycle all c.loop-cycle.invariant.written (AppendsPrefix-same part last)) h) c.write.ensures.err

@@ -2,7 +2,7 @@ use Rattle.std.proofs.Common.{◌≡◌, Ok, sym, refl, subst}
 use Rattle.cif_defs.specs.declared.raw_module.Raw.{Raw}
 use Rattle.cif_defs.specs.Accepted.{netlist_of}
 use Rattle.cif_cells.specs.Checks.{IsAccepted}
-use Rattle.cif_level.specs.Searching.{IsReal}
+use Rattle.cif_level.specs.LevelFaults.{IsReal}
 use Rattle.cif_level.specs.declared.fault.LevelFault.{LevelFault}
 use Rattle.cif_json.specs.Answers.{ComesTo}
 use Rattle.cif_desk.specs.Permitted.{FailsNetlist, unread, unaccepted}
@@ -26,4 +26,4 @@ returns-in-Err-Loop-clause-err c =
     let Read : Raw → Type 0 = λ raw. ComesTo c.args.bytes.now (Ok raw) in
     StopsBy-weaker _ (FailsNetlist c.args.bytes.now) c.loop_stop.result
     (λ r is. fails_by_loop c.args.bytes.now c.in-Ok-build.netlist c.in-Err-Loop.cells c.items.result.now r
-      (subst Read (sym built) c.in-Ok.ensures.ok) (subst IsAccepted (sym built) (c.in-Ok-build.ensures.accepted refl)) loop c.items.ensures is) c.loop_stop.ensures
+    (subst Read (sym built) c.in-Ok.ensures.ok) (subst IsAccepted (sym built) (c.in-Ok-build.ensures.accepted refl)) loop c.items.ensures is) c.loop_stop.ensures

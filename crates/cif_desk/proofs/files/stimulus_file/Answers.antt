@@ -12,4 +12,4 @@ returns-clause-cycles g c = IfOk-weaker c.stimulus_of_bytes.result _ _ (λ s rea
 pub returns-clause-err : goal.returns-clause-err
 returns-clause-err g c = IfErr-weaker c.stimulus_of_bytes.result _ _
     (λ stop h. StopsAtFile-by _ _ _ c.args.name.now stop
-      (λ r none. bad_stimulus_refused _ c.args.name.now c.deref.result.now c.in_ok-bytes.bytes.items _ r c.in_ok-bytes.ensures.ok c.deref.ensures.value none) h) c.stimulus_of_bytes.ensures.err
+    (λ r none. bad_stimulus_refused _ c.args.name.now c.deref.result.now c.in_ok-bytes.bytes.items _ r c.in_ok-bytes.ensures.ok c.deref.ensures.value none) h) c.stimulus_of_bytes.ensures.err

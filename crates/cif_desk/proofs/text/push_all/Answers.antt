@@ -1,4 +1,4 @@
-use Rattle.std.proofs.Common.{◌≡◌, ◌++◌, ◌∙◌, List, ℕ, ◌≤◌, length, ap, arith}
+use Rattle.std.proofs.Common.{◌++◌, ◌∙◌, List, ℕ, ◌≤◌, length, ap, arith}
 use Rattle.cif_desk.specs.Pieces.{piece_text}
 use Rattle.cif_desk.proofs.TextLaws.{flat_map_done, joined-map}
 use Rattle.cif_desk.proofs.text.push_all.Goals as goal
