@@ -1,6 +1,7 @@
 use super::*;
 use cif_io::{Bytes, CallNumbers, File, Files, MemSink, MemStore, Open};
 use std::alloc::{AllocError, Global};
+use std::process::Abort;
 use std::test::Fail;
 
 fn bytes_of(alloc: Global, text: &str) -> Result<Bytes, AllocError> {
@@ -55,7 +56,7 @@ struct Wanted<'a> {
 
 /// A command line over files ends as is wanted.
 fn assert_ends(
-    rt: &HostRuntime,
+    rt: &impl Abort,
     alloc: Global,
     line: &str,
     files: &[(&str, &str)],
@@ -73,7 +74,7 @@ fn assert_ends(
 }
 
 /// A netlist is refused with this line.
-fn assert_refused(rt: &HostRuntime, alloc: Global, net: &str, line: &str) -> Result<(), Fail> {
+fn assert_refused(rt: &impl Abort, alloc: Global, net: &str, line: &str) -> Result<(), Fail> {
     let wanted = Wanted {
         status: 2,
         out: "",
@@ -83,7 +84,7 @@ fn assert_refused(rt: &HostRuntime, alloc: Global, net: &str, line: &str) -> Res
 }
 
 /// A netlist is accepted with this line.
-fn assert_accepted(rt: &HostRuntime, alloc: Global, net: &str, line: &str) -> Result<(), Fail> {
+fn assert_accepted(rt: &impl Abort, alloc: Global, net: &str, line: &str) -> Result<(), Fail> {
     let wanted = Wanted {
         status: 0,
         out: line,
