@@ -290,17 +290,18 @@ fn not_order(rt: HostRuntime) -> Result<(), Fail> {
 
 #[test]
 fn stimulus_of_another_form(rt: HostRuntime) -> Result<(), Fail> {
-    let stim = "cellift-stimulus 2\ncycles 3\n";
-    let wanted = Wanted {
-        status: 2,
-        out: "",
-        err: "refused 90: not built yet\n",
-    };
-    assert_ends(
-        &rt,
-        rt.alloc(),
-        "eval net stim",
-        &[("net", REGISTER), ("stim", stim)],
-        wanted,
-    )
+    let stims = [
+        "cellift-stimulus 2\ncycles 3\n",
+        "cellift-stimulus 1\ncycles 3\nreg r 01\n@ 0\nset d 01 10\n@ 1\nset d 11\n",
+    ];
+    for stim in stims {
+        let wanted = Wanted {
+            status: 2,
+            out: "",
+            err: "refused 90: not built yet\n",
+        };
+        let files = [("net", REGISTER), ("stim", stim)];
+        assert_ends(&rt, rt.alloc(), "eval net stim", &files, wanted)?;
+    }
+    Ok(())
 }
