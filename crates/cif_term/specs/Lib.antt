@@ -1,0 +1,4 @@
+pub mod Formulas
+pub mod TermView
+pub mod CellTaints
+pub mod Extended
