@@ -1,0 +1,3 @@
+pub mod Monotone
+pub mod Flags
+pub mod BitRules
