@@ -1,14 +1,12 @@
 -- Exact taint of kinds whose output bits read one bit of each operand.
-use Rattle.std.specs.Prelude.{ℕ, zero, suc, ◌+◌, ◌-◌, ◌<◌, ◌≤◌, ◌≡◌, nat_lt, Bool, true, false, not, ◌&&◌, ◌||◌, List, [], ◌∷◌, length, refl, if◌then◌else◌}
+use Rattle.std.specs.Prelude.{ℕ, suc, ◌<◌, ◌≡◌, Bool, true, false, not, ◌&&◌, ◌||◌, List, [], ◌∷◌, length, refl}
 use Rattle.std.proofs.Common.{arith, sym, ap, ◌∙◌}
-use Rattle.cif_defs.specs.Coarse.{max_word, min_word}
 use Rattle.cif_defs.specs.Completions.{AllComplete, CanDiffer, IsExact}
-use Rattle.cif_defs.specs.Meanings.{concat_word, slice_word, fa_majority_word}
 use Rattle.cif_defs.specs.Words.{Word, bit, word, operand, extended_bit, xor, majority}
 use Rattle.cif_defs.proofs.WordLaws.{bit-word, length-word}
 use Rattle.cif_defs.proofs.Numbers.{Le, word-same}
 use Rattle.cif_defs.proofs.Exact.{SameShape, bit-max, bit-min, bits_can_differ, column, exact_by_bits}
-use Rattle.rule_logic.proofs.Monotone.{Grows, IsBelow, differs_spread, maxes, mins, operand-maxes, operand-mins, spread_differs, spreads}
+use Rattle.rule_logic.proofs.Monotone.{Grows, differs_spread, maxes, mins, operand-maxes, operand-mins, spread_differs, spreads}
 
 -- ---- one operand
 

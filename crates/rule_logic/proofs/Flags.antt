@@ -2,14 +2,14 @@
 use Rattle.std.specs.Prelude.{ℕ, zero, suc, ◌<◌, ◌≡◌, ◌≢◌, Bool, true, false, not, ◌&&◌, ◌||◌, ◌==◌, List, [], ◌∷◌, length, refl}
 use Rattle.std.proofs.Common.{arith, sym, ap, ◌∙◌, inl, inr}
 use Rattle.std.proofs.lemmas.Bool.Decides.{nat_tests}
-use Rattle.cif_defs.specs.Completions.{AllComplete, CanDiffer, Completes, IsExact}
-use Rattle.cif_defs.specs.Words.{Word, bit, word, operand, flag_word, has_one, is_all_ones, parity, xor}
+use Rattle.cif_defs.specs.Completions.{CanDiffer, Completes, IsExact}
+use Rattle.cif_defs.specs.Words.{Word, bit, operand, flag_word, has_one, is_all_ones, parity, xor}
 use Rattle.cif_defs.proofs.WordLaws.{bit-word, length-word, same_words}
 use Rattle.cif_defs.proofs.Numbers.{Le}
-use Rattle.cif_defs.proofs.Differ.{completes_cons, nothing}
+use Rattle.cif_defs.proofs.Differ.{completes_cons}
 use Rattle.cif_defs.proofs.Agree.{self_complete}
 use Rattle.cif_defs.proofs.Exact.{SameShape, and_both, and_true, cons_complete, nil_complete, or_left, or_right, or_true, true_by}
-use Rattle.rule_logic.proofs.Monotone.{Grows, IsBelow, differs_spread, maxes, mins, spread_differs, spreads}
+use Rattle.rule_logic.proofs.Monotone.{Grows, differs_spread, spread_differs, spreads}
 
 -- ---- a flag
 

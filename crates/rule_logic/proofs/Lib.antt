@@ -5,3 +5,4 @@ pub mod Shapes
 pub mod LogicValues
 pub mod LogicTaints
 pub mod LogicKinds
+pub mod LogicRest

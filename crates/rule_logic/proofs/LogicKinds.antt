@@ -1,18 +1,16 @@
 -- Each kind in turn: its formula, exact and within its weight.
-use Rattle.std.specs.Prelude.{ℕ, zero, suc, ◌+◌, ◌-◌, ◌<◌, ◌≤◌, ◌≡◌, ◌≢◌, nat_lt, Bool, true, false, not, ◌&&◌, ◌||◌, List, [], ◌∷◌, ◌++◌, map, length, get_or, slice_get, Some, refl, if◌then◌else◌}
-use Rattle.std.proofs.Common.{arith, sym, ap, subst, ◌∙◌}
+use Rattle.std.specs.Prelude.{ℕ, ◌+◌, ◌≤◌, ◌≡◌, Bool, not, ◌&&◌, ◌||◌, List, [], ◌∷◌, length, slice_get, Some, refl}
+use Rattle.std.proofs.Common.{arith, ap}
 use Rattle.std.proofs.lemmas.Bool.Decides.{nat_tests}
 use Rattle.cif_defs.specs.Coarse.{max_word, min_word}
-use Rattle.cif_defs.specs.Words.{Word, bit, word, extended_bit, flag_word, has_one, is_all_ones, operand, parity, xor}
+use Rattle.cif_defs.specs.Words.{Word, bit, word, extended_bit, has_one, is_all_ones, operand, parity, xor}
 use Rattle.cif_defs.specs.Kinds.{is_coarse}
-use Rattle.cif_defs.specs.Cells.{Cell, number_of, y_width, a_signed, both_signed, words_by}
-use Rattle.cif_defs.specs.Completions.{IsExact}
+use Rattle.cif_defs.specs.Cells.{Cell, number_of, y_width, both_signed, words_by}
 use Rattle.cif_defs.specs.Table.{operands_of, outputs_of, width_limit}
 use Rattle.cif_defs.specs.Taint.{output_bit}
 use Rattle.cif_defs.specs.Fitted.{IsFitted}
 use Rattle.cif_defs.specs.Weights.{weight, weight_by}
-use Rattle.cif_defs.specs.declared.kinds.Kind.{Kind}
-use Rattle.cif_defs.specs.declared.kinds.Kind.TheVariants.{Not as NotKind, Pos, And as AndKind, Or as OrKind, Xor as XorKind, Xnor, ReduceAnd as ReduceAndKind, ReduceOr as ReduceOrKind, ReduceXor as ReduceXorKind, ReduceXnor, ReduceBool, LogicNot, LogicAnd, LogicOr, Mem}
+use Rattle.cif_defs.specs.declared.kinds.Kind.TheVariants.{Not as NotKind, Pos, And as AndKind, Or as OrKind, Xor as XorKind, Xnor, ReduceAnd as ReduceAndKind, ReduceOr as ReduceOrKind, ReduceXor as ReduceXorKind, ReduceXnor, ReduceBool, LogicNot, LogicAnd, LogicOr}
 use Rattle.cif_defs.specs.declared.kinds.Param.TheVariants.{AWidth, BWidth}
 use Rattle.cif_term.specs.declared.ops.Op1.TheVariants.{Not, ReduceAnd, ReduceOr}
 use Rattle.cif_term.specs.declared.ops.Op2.TheVariants.{And, Or}
@@ -44,13 +42,13 @@ some_plain {n = n} i y a l = let u = y.limit in let p = joined_small (pieces n) 
 leaf_value : (ws : List ℕ) (p n : ℕ) → slice_get ws p ≡ Some n → IsPlain n → IsFormed (Value p) ws [] n 0
 leaf_value ws p n e y = let l = y.limit in formed_value ws [] p n e y.some (omega arith)
 
-leaf_taint : (ws : List ℕ) (p n : ℕ) → slice_get ws p ≡ Some n → IsPlain n → IsFormed (Taint p) ws [] n 0
+pub leaf_taint : (ws : List ℕ) (p n : ℕ) → slice_get ws p ≡ Some n → IsPlain n → IsFormed (Taint p) ws [] n 0
 leaf_taint ws p n e y = let l = y.limit in formed_taint ws [] p n e y.some (omega arith)
 
-formed_max : (ws : List ℕ) (p n : ℕ) → slice_get ws p ≡ Some n → IsPlain n → IsFormed (max_formula p) ws [] n 1
+pub formed_max : (ws : List ℕ) (p n : ℕ) → slice_get ws p ≡ Some n → IsPlain n → IsFormed (max_formula p) ws [] n 1
 formed_max ws p n e y = or_plain 1 y (leaf_value ws p n e y) (leaf_taint ws p n e y) (omega arith)
 
-formed_min : (ws : List ℕ) (p n : ℕ) → slice_get ws p ≡ Some n → IsPlain n → IsFormed (min_formula p) ws [] n 2
+pub formed_min : (ws : List ℕ) (p n : ℕ) → slice_get ws p ≡ Some n → IsPlain n → IsFormed (min_formula p) ws [] n 2
 formed_min ws p n e y = two_plain 2 y (leaf_value ws p n e y) (not_plain 1 y (leaf_taint ws p n e y) (omega arith)) (omega arith)
 
 formed_spread : {f g : Formula} {ws : List ℕ} {j k : ℕ} (i : ℕ) → IsFormed f ws [] 1 j → IsFormed g ws [] 1 k → j + k + 2 ≤ i → IsFormed (spread f g) ws [] 1 i

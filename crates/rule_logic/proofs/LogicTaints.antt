@@ -1,33 +1,27 @@
 -- The formula of each kind computes the taint of its output, and costs no more than the kind's weight.
-use Rattle.std.specs.Prelude.{ℕ, zero, suc, ◌+◌, ◌-◌, ◌<◌, ◌≤◌, ◌≡◌, ◌≢◌, nat_lt, Bool, true, false, not, ◌&&◌, ◌||◌, List, [], ◌∷◌, ◌++◌, map, length, get_or, slice_get, Some, refl, if◌then◌else◌}
-use Rattle.std.specs.List.{range_with_len}
+use Rattle.std.specs.Prelude.{ℕ, ◌+◌, ◌≤◌, ◌≡◌, ◌≢◌, Bool, false, List, [], ◌∷◌, map, length, get_or, slice_get, refl}
 use Rattle.std.proofs.Common.{arith, sym, ap, subst, ◌∙◌}
-use Rattle.cif_defs.specs.Coarse.{max_word, min_word}
-use Rattle.cif_defs.specs.Words.{Word, bit, word, extend, extended_bit, flag_word, has_one, is_all_ones, majority, operand, parity, xor}
+use Rattle.cif_defs.specs.Words.{Word, bit, word, extended_bit, flag_word, operand}
 use Rattle.cif_defs.specs.Kinds.{is_coarse}
-use Rattle.cif_defs.specs.Cells.{Cell, number_of, y_width, width, a_signed, both_signed, meaning, words_by}
+use Rattle.cif_defs.specs.Cells.{Cell, number_of, y_width, a_signed, both_signed}
 use Rattle.cif_defs.specs.Completions.{IsExact}
-use Rattle.cif_defs.specs.Table.{a_row, b_row, y_row, row, operands_of, outputs_of, width_limit}
+use Rattle.cif_defs.specs.Table.{a_row, b_row, y_row, operands_of, outputs_of, width_limit}
 use Rattle.cif_defs.specs.Taint.{output_bit}
-use Rattle.cif_defs.specs.Fitted.{AllWithin, IsFitted, IsWithin, operand_widths, row_width}
-use Rattle.cif_defs.specs.Weights.{weight, weight_by}
+use Rattle.cif_defs.specs.Fitted.{IsFitted, operand_widths, row_width}
+use Rattle.cif_defs.specs.Weights.{weight}
 use Rattle.cif_defs.specs.declared.kinds.Kind.{Kind}
-use Rattle.cif_defs.specs.declared.kinds.Kind.TheVariants.{Not as NotKind, Pos, And as AndKind, Or as OrKind, Xor as XorKind, Xnor, ReduceAnd as ReduceAndKind, ReduceOr as ReduceOrKind, ReduceXor as ReduceXorKind, ReduceXnor, ReduceBool, LogicNot, LogicAnd, LogicOr, Concat, Slice, Fa, Mem}
-use Rattle.cif_defs.specs.declared.kinds.Param.TheVariants.{AWidth, BWidth, Offset, Width}
-use Rattle.cif_defs.proofs.WordLaws.{bit-word, length-word}
-use Rattle.cif_defs.proofs.Numbers.{word-same}
+use Rattle.cif_defs.specs.declared.kinds.Kind.TheVariants.{Mem}
+use Rattle.cif_defs.specs.declared.kinds.Param.TheVariants.{AWidth, BWidth}
 use Rattle.cif_defs.proofs.Exact.{bits_can_differ}
-use Rattle.cif_term.specs.declared.ops.Op1.TheVariants.{Not, ReduceAnd, ReduceOr}
+use Rattle.cif_term.specs.declared.ops.Op1.TheVariants.{Not}
 use Rattle.cif_term.specs.declared.ops.Op2.TheVariants.{And, Or}
-use Rattle.cif_term.specs.Formulas.{Formula, Value, Taint, Pick, Join, One, Two, IsFormed, cost_of, value_of}
-use Rattle.cif_term.specs.CellTaints.{AreTaintsOf, IsTaintOf, output_width, taint_word}
-use Rattle.cif_term.specs.Extended.{extended}
-use Rattle.cif_term.proofs.Forms.{formed_extended, formed_join, formed_one, formed_pick, formed_taint, formed_two, formed_value, pieces_narrow, raised}
-use Rattle.cif_term.proofs.Values.{value-and, value-extended, value-not, value-or}
-use Rattle.rule_logic.specs.LogicFormulas.{and_formula, either_formula, fa_carry_formula, fa_sum_formula, flag_formula, logic_and_formula, logic_by, logic_or_formula, majority_formula, max_formula, min_formula, or_formula, reduce_and_formula, reduce_or_formula, reduce_xor_formula, spread, taint_at, value_at}
-use Rattle.rule_logic.proofs.BitRules.{and_rule, and_table, either_rule, not_table, one_exact, one_of, or_rule, or_table, same_table, two_exact, two_of, xnor_bits, xnor_table, xor_table}
-use Rattle.rule_logic.proofs.Flags.{both_grow, complement_exact, either_grows, not_parity_exact, ones_grows, parity_exact, some_grows, spread_exact}
-use Rattle.rule_logic.proofs.LogicValues.{value-both, value-either, value-flag, value-max, value-min, value-ones, value-some, value-spread}
+use Rattle.cif_term.specs.Formulas.{Formula, Value, Taint, One, Two, IsFormed, cost_of, value_of}
+use Rattle.cif_term.specs.CellTaints.{IsTaintOf, output_width}
+use Rattle.cif_term.proofs.Forms.{formed_extended, formed_one, formed_taint, formed_two, formed_value, pieces_narrow, raised}
+use Rattle.cif_term.proofs.Values.{value-extended}
+use Rattle.rule_logic.specs.LogicFormulas.{flag_formula, taint_at, value_at}
+use Rattle.rule_logic.proofs.BitRules.{one_exact, one_of, two_exact, two_of}
+use Rattle.rule_logic.proofs.LogicValues.{value-flag}
 use Rattle.rule_logic.proofs.Shapes.{HasRows, IsPlain, has_rows, is_taint, one_word, plain, two_words}
 
 -- ---- cells of unary and of binary shape
@@ -62,7 +56,7 @@ pub record IsRule (c : Cell) (f : Formula) : Type 0 where
   pub taint : IsTaintOf c 0 f
   pub cost : cost_of f (operand_widths c) [] ≤ weight c
 
-rule : (c : Cell) (f : Formula) (n k : ℕ) (ws : List ℕ) (h : ℕ → List Word → Bool) → operand_widths c ≡ ws → output_width c 0 ≡ n → IsFormed f ws [] n k → k ≤ weight c → is_coarse c.kind ≡ false
+pub rule : (c : Cell) (f : Formula) (n k : ℕ) (ws : List ℕ) (h : ℕ → List Word → Bool) → operand_widths c ≡ ws → output_width c 0 ≡ n → IsFormed f ws [] n k → k ≤ weight c → is_coarse c.kind ≡ false
     → ((i : ℕ) (us : List Word) → output_bit c 0 i us ≡ h i us) → ((vs ts : List Word) → map length vs ≡ ws → map length ts ≡ ws → IsExact n h vs ts (value_of f vs ts [])) → IsRule c f
 rule c f n k ws h e o formed l fine r exact = record {
   taint = is_taint c 0 f n k ws h e o formed fine r exact;

@@ -1,15 +1,14 @@
 -- What the formulas of reductions and of bitwise kinds stand for.
-use Rattle.std.specs.Prelude.{ℕ, zero, suc, ◌+◌, ◌-◌, ◌<◌, ◌≤◌, ◌≡◌, Bool, true, false, not, ◌&&◌, ◌||◌, ◌==◌, List, [], ◌∷◌, ◌++◌, length, refl}
+use Rattle.std.specs.Prelude.{ℕ, zero, suc, ◌≡◌, Bool, false, not, ◌&&◌, ◌||◌, ◌==◌, List, [], ◌∷◌, length, refl}
 use Rattle.std.proofs.Common.{arith, sym, ap, ◌∙◌}
 use Rattle.std.proofs.lemmas.Bool.Decides.{nat_tests}
 use Rattle.cif_defs.specs.Coarse.{max_word, min_word}
 use Rattle.cif_defs.specs.Words.{Word, bit, word, extended_bit, flag_word, has_one, is_all_ones, operand}
-use Rattle.cif_defs.proofs.WordLaws.{bit-word, length-word}
+use Rattle.cif_defs.proofs.WordLaws.{bit-word}
 use Rattle.cif_defs.proofs.Numbers.{word-same}
-use Rattle.cif_term.specs.declared.ops.Op1.{Op1}
 use Rattle.cif_term.specs.declared.ops.Op1.TheVariants.{Not, ReduceAnd, ReduceOr}
 use Rattle.cif_term.specs.declared.ops.Op2.TheVariants.{And, Or}
-use Rattle.cif_term.specs.Formulas.{Formula, Value, Taint, One, Two, one_word, two_word, value_of}
+use Rattle.cif_term.specs.Formulas.{Formula, One, Two, one_word, two_word, value_of}
 use Rattle.cif_term.proofs.Values.{value-and, value-extended, value-or}
 use Rattle.rule_logic.specs.LogicFormulas.{flag_formula, majority_formula, max_formula, min_formula, spread}
 

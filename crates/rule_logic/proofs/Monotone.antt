@@ -1,6 +1,6 @@
 -- Exact taint of what grows with its operands: it can differ exactly where its greatest and its least value differ.
-use Rattle.std.specs.Prelude.{ℕ, zero, suc, ◌≡◌, ◌≢◌, Bool, true, false, not, ◌&&◌, ◌||◌, List, [], ◌∷◌, length, get_or, refl}
-use Rattle.std.proofs.Common.{arith, sym, ap, ◌∙◌, inl, inr}
+use Rattle.std.specs.Prelude.{ℕ, zero, suc, ◌≡◌, Bool, true, false, not, ◌&&◌, ◌||◌, List, [], ◌∷◌, length, refl}
+use Rattle.std.proofs.Common.{sym, ap, ◌∙◌, inl, inr}
 use Rattle.cif_defs.specs.Coarse.{max_word, min_word}
 use Rattle.cif_defs.specs.Completions.{AllComplete, CanDiffer, Completes}
 use Rattle.cif_defs.specs.Words.{Word, bit, operand}

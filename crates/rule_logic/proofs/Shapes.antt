@@ -1,20 +1,18 @@
 -- The operands of cells that fit the table of kinds, and what makes a formula the taint of such a cell.
-use Rattle.std.specs.Prelude.{ℕ, zero, suc, ◌<◌, ◌≤◌, ◌≡◌, ◌≢◌, Bool, true, false, List, [], ◌∷◌, map, length, get_or, Some, refl}
+use Rattle.std.specs.Prelude.{ℕ, ◌≤◌, ◌≡◌, ◌≢◌, Bool, false, List, [], ◌∷◌, map, length, Some}
 use Rattle.std.proofs.Common.{arith, sym, ap, subst, ◌∙◌}
-use Rattle.cif_defs.specs.Words.{Word, bit}
+use Rattle.cif_defs.specs.Words.{Word}
 use Rattle.cif_defs.specs.Kinds.{is_coarse}
-use Rattle.cif_defs.specs.Cells.{Cell, number_of, y_width, width}
+use Rattle.cif_defs.specs.Cells.{Cell}
 use Rattle.cif_defs.specs.Completions.{IsExact}
 use Rattle.cif_defs.specs.Table.{operands_of, outputs_of, width_limit}
 use Rattle.cif_defs.specs.Taint.{output_bit}
 use Rattle.cif_defs.specs.Fitted.{AllWithin, IsFitted, IsWithin, operand_widths, row_width}
 use Rattle.cif_defs.specs.declared.kinds.Kind.{Kind}
 use Rattle.cif_defs.specs.declared.kinds.Kind.TheVariants.{Mem}
-use Rattle.cif_defs.specs.declared.kinds.CellPort.{CellPort}
-use Rattle.cif_defs.specs.declared.kinds.Param.TheVariants.{AWidth, BWidth}
 use Rattle.cif_defs.specs.declared.kinds.PortRow.{PortRow}
 use Rattle.cif_term.specs.Formulas.{Formula, IsFormed, value_of, width_of}
-use Rattle.cif_term.specs.CellTaints.{AreOperands, IsTaintOf, output_width, taint_word}
+use Rattle.cif_term.specs.CellTaints.{IsTaintOf, output_width}
 use Rattle.cif_term.proofs.CellTaints.{exact_taint}
 
 -- ---- ports

@@ -1,7 +1,7 @@
 -- The formulas of the taint of bitwise, reducing and wiring kinds.
 use Rattle.std.specs.Prelude.{ℕ, zero, suc, Bool, true, false}
 use Rattle.std.specs.List.{range_with_len}
-use Rattle.cif_defs.specs.Cells.{Cell, number_of, y_width, width, a_signed, both_signed}
+use Rattle.cif_defs.specs.Cells.{Cell, number_of, y_width, a_signed, both_signed}
 use Rattle.cif_defs.specs.declared.kinds.Kind.{Kind}
 use Rattle.cif_defs.specs.declared.kinds.Kind.TheVariants.{Not as NotKind, Pos, And as AndKind, Or as OrKind, Xor as XorKind, Xnor, ReduceAnd as ReduceAndKind, ReduceOr as ReduceOrKind, ReduceXor as ReduceXorKind, ReduceXnor, ReduceBool, LogicNot, LogicAnd, LogicOr, Concat, Slice, Fa}
 use Rattle.cif_defs.specs.declared.kinds.Param.TheVariants.{AWidth, BWidth, Offset}
