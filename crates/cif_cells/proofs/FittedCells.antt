@@ -23,6 +23,7 @@ use Rattle.cif_defs.specs.declared.raw_module.RawCell.{RawCell}
 use Rattle.cif_defs.specs.declared.raw_module.Raw.{Raw}
 use Rattle.cif_cells.specs.Checks.{◌else_by◌, first_fault, cells_fault, cell_fault, cell_fault_by, known_cell_fault, parameters_fault, slice_fault, memory_form, zero_width, too_wide, missing_port, wrong_width, constant_output, is_wide_memory, may_be_empty, number_or_0, memory_bits_fault, IsAccepted}
 use Rattle.cif_cells.specs.Checks.{row_width as given_width}
+use Rattle.cif_cells.specs.NetlistView.{AreFitted}
 use Rattle.cif_cells.specs.declared.fault.BuildFault.{BuildFault}
 use Rattle.cif_cells.proofs.Passed.{first_passes, next_passes, test_passes, passed}
 use Rattle.cif_cells.proofs.FirstFaults.{first_fault-append}
@@ -257,7 +258,12 @@ unfolding netlist_of
 fitted raw h i l = each_cell IsFitted (net_numbers raw) raw.cells (cell_fitted (net_numbers raw)) (cells_pass raw (passed raw h).cells) i l
 
 -- the same of a list that holds the cells
-pub all_fitted : (raw : Raw) (cells : List Cell) → cells ≡ (netlist_of raw).cells → IsAccepted raw → (i : ℕ) → i < length cells → IsFitted (get_or cells i no_cell)
+pub all_fitted : (raw : Raw) (cells : List Cell) → cells ≡ (netlist_of raw).cells → IsAccepted raw → AreFitted cells
+unfolding AreFitted
 all_fitted raw cells e h =
     let P : List Cell → Type 0 = λ cs. (i : ℕ) → i < length cs → IsFitted (get_or cs i no_cell) in
     subst P (sym e) (fitted raw h)
+
+pub fitted_at : (cells : List Cell) → AreFitted cells → (i : ℕ) → i < length cells → IsFitted (get_or cells i no_cell)
+unfolding AreFitted
+fitted_at cells h = h

@@ -1,14 +1,14 @@
 // Accepted netlists.
-ghost use Rattle.std.specs.Prelude.{ℕ, ◌≡◌, ◌<◌, ◌≤◌, length, get_or, map, [], IfOk};
+ghost use Rattle.std.specs.Prelude.{◌≡◌, ◌<◌, ◌≤◌, length, get_or, map, [], IfOk};
 ghost use Rattle.std.specs.List.{sum_by};
 ghost use Rattle.cif_defs.specs.Words.{bit};
 ghost use Rattle.cif_defs.specs.Cells.{state_bits as state_bits_of};
 ghost use Rattle.cif_defs.specs.Accepted.{netlist_of};
-ghost use Rattle.cif_defs.specs.Fitted.{IsFitted};
-ghost use Rattle.cif_defs.specs.Netlist.{driver_of, IsWired, no_cell};
+ghost use Rattle.cif_defs.specs.Netlist.{driver_of, IsWired};
 ghost use Rattle.cif_defs.specs.RawModule.{net_numbers};
 ghost use Rattle.cif_cells.specs.Checks.{IsAccepted};
 ghost use Rattle.cif_cells.specs.Inits.{init_of};
+ghost use Rattle.cif_cells.specs.NetlistView.{AreFitted};
 
 use crate::assemble::{cells_of, inputs_of, outputs_of};
 use crate::cell::Cell;
@@ -87,7 +87,7 @@ impl Netlist {
         ensures few { length result.now ≤ 400000 }
         ensures accepted { IsAccepted self.now }
         ensures wired { IsWired (netlist_of self.now) }
-        ensures fitted { (i : ℕ) → i < length result.now → IsFitted (get_or result.now i no_cell) }
+        ensures fitted { AreFitted result.now }
     {
         &self.cells
     }
