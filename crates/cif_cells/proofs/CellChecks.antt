@@ -97,7 +97,7 @@ or_false false b h = (refl, h)
 
 -- ---- the outputs of a cell that passes the checks of widths are narrow
 
-outputs_part : (f : PortRow → Option BuildFault) (k : Kind) → first_fault f (ports_of k) ≡ None → first_fault f (outputs_of k) ≡ None
+pub outputs_part : (f : PortRow → Option BuildFault) (k : Kind) → first_fault f (ports_of k) ≡ None → first_fault f (outputs_of k) ≡ None
 unfolding ports_of
 outputs_part f Mem h =
     (else_none (first_fault f (operands_of Mem)) (first_fault f (outputs_of Mem))

@@ -1,9 +1,10 @@
 -- What the fields of a `Netlist` hold: the netlist of its raw module.
-use Rattle.std.specs.Prelude.{◌≡◌, ◌≤◌, List, length}
+use Rattle.std.specs.Prelude.{ℕ, ◌≡◌, ◌<◌, ◌≤◌, List, length, get_or}
 use Rattle.cif_defs.specs.Words.{Word}
 use Rattle.cif_defs.specs.Cells.{Cell}
 use Rattle.cif_defs.specs.Accepted.{netlist_of}
-use Rattle.cif_defs.specs.Netlist.{IsWired}
+use Rattle.cif_defs.specs.Fitted.{IsFitted}
+use Rattle.cif_defs.specs.Netlist.{IsWired, no_cell}
 use Rattle.cif_defs.specs.declared.nets.Wire.{Wire}
 use Rattle.cif_defs.specs.declared.nets.Driver.{Driver}
 use Rattle.cif_defs.specs.declared.raw_module.Raw.{Raw}
@@ -19,3 +20,7 @@ pub record Holds (raw : Raw) (inputs outputs : List Wire) (cells : List Cell) (d
   pub same_cells : cells ≡ (netlist_of raw).cells
   pub same_drivers : drivers ≡ (netlist_of raw).drivers
   pub same_initial : initial ≡ (netlist_of raw).initial
+
+-- each cell has ports as wide as the table of kinds says; opaque, so that a search does not try each cell
+unfoldable pub AreFitted : List Cell → Type 0
+AreFitted cells = (i : ℕ) → i < length cells → IsFitted (get_or cells i no_cell)

@@ -8,6 +8,7 @@ ghost use Rattle.cif_defs.specs.Netlist.{driver_of, IsWired};
 ghost use Rattle.cif_defs.specs.RawModule.{net_numbers};
 ghost use Rattle.cif_cells.specs.Checks.{IsAccepted};
 ghost use Rattle.cif_cells.specs.Inits.{init_of};
+ghost use Rattle.cif_cells.specs.NetlistView.{AreFitted};
 
 use crate::assemble::{cells_of, inputs_of, outputs_of};
 use crate::cell::Cell;
@@ -86,6 +87,7 @@ impl Netlist {
         ensures few { length result.now ≤ 400000 }
         ensures accepted { IsAccepted self.now }
         ensures wired { IsWired (netlist_of self.now) }
+        ensures fitted { AreFitted result.now }
     {
         &self.cells
     }
