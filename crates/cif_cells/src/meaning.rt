@@ -1,0 +1,3 @@
+// What cells give and store.
+
+pub mod numbers;
