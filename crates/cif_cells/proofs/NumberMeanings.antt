@@ -1,12 +1,12 @@
 -- The words that cells on numbers give, from the steps of the code.
-use Rattle.std.specs.Prelude.{ℕ, zero, suc, ◌<◌, ◌≤◌, ◌≡◌, ◌==◌, ◌&&◌, ◌↔◌, IsTrue, IfOk, Result, Ok, Err, Bool, true, false, max, length, slice_set, pos, ◌-ℤ◌, if◌then◌else◌, ◌^◌}
+use Rattle.std.specs.Prelude.{ℕ, zero, suc, ◌<◌, ◌≡◌, ◌==◌, ◌&&◌, ◌↔◌, IsTrue, IfOk, Result, Bool, true, false, max, length, slice_set, pos, ◌-ℤ◌, if◌then◌else◌, ◌^◌}
 use Rattle.std.specs.Ordering.{int_eq}
 use Rattle.std.proofs.Common.{arith, sym, ap, ◌∙◌, Decides}
 use Rattle.std.proofs.lemmas.Bool.Decides.{Decides-int_eq, nat_tests, same_from_decides}
 use Rattle.std.proofs.lemmas.Int.{ints}
 use Rattle.std.proofs.lemmas.List.{get_or-set_same, get_or-set_other, length-set}
 use Rattle.std.proofs.lemmas.Result.{IfOk-weaker}
-use Rattle.cif_defs.specs.Words.{Word, bit, extend, extended_bit, flag_word, int_number, number, top, word, word_of, zeros}
+use Rattle.cif_defs.specs.Words.{Word, bit, extend, flag_word, int_number, number, top, word_of, zeros}
 use Rattle.cif_defs.specs.Meanings.{compared}
 use Rattle.cif_defs.proofs.WordLaws.{bit-word, length-word, same_words}
 use Rattle.cif_defs.proofs.WordNumbers.{word_of-number, number_below}
