@@ -12,3 +12,5 @@ pub mod Clocks
 pub mod Reads
 pub mod CellReads
 pub mod Building
+pub mod NumberKinds
+pub mod RegisterKinds

@@ -17,7 +17,7 @@ use Rattle.cif_term.specs.declared.ops.Op2.TheVariants.{And, Or}
 use Rattle.cif_term.specs.Formulas.{Formula, Value, Taint, One, Two, IsFormed, joined_pieces, pieces, value_of}
 use Rattle.cif_term.proofs.Forms.{formed_one, formed_taint, formed_value, pieces_narrow, raised}
 use Rattle.cif_term.proofs.Values.{value-and, value-not, value-or}
-use Rattle.rule_logic.specs.LogicFormulas.{and_formula, either_formula, logic_and_formula, logic_or_formula, max_formula, min_formula, or_formula, reduce_and_formula, reduce_or_formula, reduce_xor_formula, flag_formula, spread}
+use Rattle.rule_logic.specs.LogicFormulas.{and_formula, either_formula, is_binary, is_unary, logic_and_formula, logic_or_formula, max_formula, min_formula, or_formula, reduce_and_formula, reduce_or_formula, reduce_xor_formula, flag_formula, spread}
 use Rattle.rule_logic.proofs.BitRules.{and_rule, and_table, either_rule, not_table, or_rule, or_table, same_table, xnor_bits, xnor_table, xor_table}
 use Rattle.rule_logic.proofs.Flags.{both_grow, complement_exact, either_grows, not_parity_exact, ones_grows, parity_exact, some_grows, spread_exact}
 use Rattle.rule_logic.proofs.LogicValues.{value-both, value-either, value-max, value-min, value-ones, value-some, value-spread}
@@ -362,3 +362,31 @@ logic_or_weight c k = ap (λ x. weight_by x c) k
 pub logic_or_is : (c : Cell) → c.kind ≡ LogicOr → IsFitted c → IsRule c (flag_formula (y_width c) logic_or_formula)
 logic_or_is c k f = two_flag (λ us. has_one (operand us 0) || has_one (operand us 1)) logic_or_formula (λ v w x z. (has_one (max_word v x) || has_one (max_word w z)) && not (has_one (min_word v x) || has_one (min_word w z))) 14 c (logic_or_binary c k f) (formed_logic_or (number_of c AWidth) (number_of c BWidth) (let u = logic_or_binary c k f in u.a) (let u = logic_or_binary c k f in u.b)) (let w = logic_or_weight c k in omega arith) (ap is_coarse k) (logic_or_row c k) some_of_value
     (λ v w x z e h. spread_exact (y_width c) (λ us. has_one (operand us 0) || has_one (operand us 1)) (v ∷ w ∷ []) (x ∷ z ∷ []) either_grows (e, (h, tt)))
+
+-- ---- the shapes of kinds
+
+unary_by : (k : Kind) (c : Cell) → c.kind ≡ k → is_unary k ≡ true → IsFitted c → IsUnary c
+unary_by NotKind c e h f = not_unary c e f
+unary_by Pos c e h f = pos_unary c e f
+unary_by ReduceAndKind c e h f = reduce_and_unary c e f
+unary_by ReduceOrKind c e h f = reduce_or_unary c e f
+unary_by ReduceXorKind c e h f = reduce_xor_unary c e f
+unary_by ReduceXnor c e h f = reduce_xnor_unary c e f
+unary_by ReduceBool c e h f = reduce_bool_unary c e f
+unary_by LogicNot c e h f = logic_not_unary c e f
+unary_by _ c e h f = absurd (cc)
+
+pub unary_shape : (c : Cell) → is_unary c.kind ≡ true → IsFitted c → IsUnary c
+unary_shape c h f = unary_by c.kind c refl h f
+
+binary_by : (k : Kind) (c : Cell) → c.kind ≡ k → is_binary k ≡ true → IsFitted c → IsBinary c
+binary_by AndKind c e h f = and_binary c e f
+binary_by OrKind c e h f = or_binary c e f
+binary_by XorKind c e h f = xor_binary c e f
+binary_by Xnor c e h f = xnor_binary c e f
+binary_by LogicAnd c e h f = logic_and_binary c e f
+binary_by LogicOr c e h f = logic_or_binary c e f
+binary_by _ c e h f = absurd (cc)
+
+pub binary_shape : (c : Cell) → is_binary c.kind ≡ true → IsFitted c → IsBinary c
+binary_shape c h f = binary_by c.kind c refl h f

@@ -32,6 +32,27 @@ covers_logic Slice = true
 covers_logic Fa = true
 covers_logic _ = false
 
+-- the kinds with operand A alone, and those with A and B, that give Y
+abbrev pub is_unary : Kind → Bool
+is_unary NotKind = true
+is_unary Pos = true
+is_unary ReduceAndKind = true
+is_unary ReduceOrKind = true
+is_unary ReduceXorKind = true
+is_unary ReduceXnor = true
+is_unary ReduceBool = true
+is_unary LogicNot = true
+is_unary _ = false
+
+abbrev pub is_binary : Kind → Bool
+is_binary AndKind = true
+is_binary OrKind = true
+is_binary XorKind = true
+is_binary Xnor = true
+is_binary LogicAnd = true
+is_binary LogicOr = true
+is_binary _ = false
+
 -- ---- bit by bit: x and y are operands, tx and ty their taints
 
 -- a tainted bit shows where the other bit is 1 or tainted

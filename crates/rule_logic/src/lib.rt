@@ -9,8 +9,6 @@ mod adder;
 mod bitwise;
 mod reduction;
 mod shadow;
-#[cfg(test)]
-mod tests;
 
 ghost use Rattle.std.specs.Prelude.{◌≡◌, true, map, IfOk};
 ghost use Rattle.cif_defs.specs.Fitted.{IsFitted};

@@ -1,0 +1,4 @@
+// What cells give and store.
+
+pub mod numbers;
+pub mod registers;
