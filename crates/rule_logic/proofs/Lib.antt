@@ -6,3 +6,5 @@ pub mod LogicValues
 pub mod LogicTaints
 pub mod LogicKinds
 pub mod LogicRest
+pub mod PlaceLists
+pub mod LogicOutputs

@@ -129,7 +129,7 @@ pub record IsSlice (c : Cell) : Type 0 where
   pub inside : number_of c Offset + y_width c ≤ number_of c AWidth
   pub weighs : weight c ≡ 12
 
-is_slice : (c : Cell) → c.kind ≡ Slice → IsFitted c → IsSlice c
+pub is_slice : (c : Cell) → c.kind ≡ Slice → IsFitted c → IsSlice c
 unfolding width_limit weight_by
 is_slice c k f =
     let r : HasRows c (a_row ∷ []) (y_row ∷ []) = slice_rows c k f in

@@ -41,6 +41,18 @@ fn binary_flag(alloc: Global, cell: &Cell, bit: Term) -> Result<Term, NoMemory>
     Ok(flag_term(alloc, extension.to, bit)?)
 }
 
+/// The `count` places from `from` on.
+fn places_from(alloc: Global, from: u32, count: u32) -> Result<Vec<u32>, NoMemory>
+    requires { from + count ≤ 65536 }
+    ensures { IfOk result (λ v. v.items ≡ range_with_len from count) }
+{
+    let mut places = Vec::with_capacity(alloc, count as usize)?;
+    for index in 0..count {
+        places.push(from + index)?;
+    }
+    Ok(places)
+}
+
 /// The taint of `$slice`: that of the bits from OFFSET on.
 fn slice_term(alloc: Global, cell: &Cell) -> Result<Term, NoMemory>
     requires kind { cell.now.kind ≡ Kind.Slice }
@@ -50,8 +62,11 @@ fn slice_term(alloc: Global, cell: &Cell) -> Result<Term, NoMemory>
 {
     let offset = cell.number(Param::Offset) as u32;
     let width = cell.number(Param::YWidth) as u32;
-    let places = (offset..offset + width).collect(alloc)?;
-    Ok(Term::pick(alloc, Term::Taint(0), places)?)
+    Ok(Term::pick(
+        alloc,
+        Term::Taint(0),
+        places_from(alloc, offset, width)?,
+    )?)
 }
 
 /// The taint of an output of `$fa`: X is output 0, and Y output 1.
@@ -66,7 +81,7 @@ fn fa_term(alloc: Global, output: u32) -> Result<Term, NoMemory>
 }
 
 /// The term of the taint of output `output`.
-#[tactic(auto, unfolding(rule_logic::specs::LogicFormulas::logic_by))]
+#[tactic(auto, unfolding(crate::specs::LogicFormulas::logic_by))]
 pub fn logic_term(alloc: Global, cell: &Cell, output: u32) -> Result<Term, NoMemory>
     requires covered { covers_logic cell.now.kind ≡ true }
     requires fitted { IsFitted cell.now }
@@ -103,9 +118,7 @@ pub fn all_terms(alloc: Global, cell: &Cell) -> Result<Vec<Term>, NoMemory>
     let mut terms = Vec::with_capacity(alloc, count as usize)?;
     for output in 0..count {
         let term = logic_term(alloc, cell, output)?;
-        if terms.push(term).is_err() {
-            return Err(NoMemory);
-        }
+        terms.push(term)?;
     }
     Ok(terms)
 }
