@@ -4,8 +4,11 @@
 //! as a formula: `formula_of`. What a formula stands for, how wide it is and what it costs are definitions.
 #![tactic(auto)]
 
+mod apply;
+mod eval;
 mod extended;
 mod ops;
+mod scope;
 mod shadow;
 mod term;
 

@@ -1,0 +1,4 @@
+pub mod Views
+pub mod Widened
+pub mod Lengths
+pub mod Parts
