@@ -11,6 +11,7 @@ mod ops;
 mod scope;
 mod shadow;
 mod term;
+mod width;
 
 pub use ops::{Op1, Op2};
 pub use shadow::Shadow;
