@@ -11,6 +11,8 @@ mod ops;
 mod scope;
 mod shadow;
 mod term;
+#[cfg(test)]
+mod tests;
 mod width;
 
 pub use ops::{Op1, Op2};
