@@ -5,6 +5,7 @@
 #![tactic(auto)]
 
 mod apply;
+mod cost;
 mod eval;
 mod extended;
 mod ops;

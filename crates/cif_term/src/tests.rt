@@ -307,3 +307,40 @@ fn extended_terms(rt: HostRuntime) {
     let cut = Term::extended(rt.alloc(), Term::Taint(0), 4, 2, false).expect(&rt, "memory");
     expect_value(&rt, &cut, b"10");
 }
+
+// The operands have 4, 1, 4,096, 4,097 and 65,536 bits.
+fn expect_cost(rt: &(impl Abort + AllocGlobal), term: &Term, want: u64) {
+    assert_eq!(rt; term.cost(&[4, 1, 4_096, 4_097, 65_536]), want);
+}
+
+#[test]
+fn costs_of_single_operations(rt: HostRuntime) {
+    expect_cost(&rt, &Term::Value(4), 0);
+    expect_cost(&rt, &join(&rt, Term::Value(0), constant(&rt, b"1")), 0);
+    // one cell for each 4,096 bits, and where there are several of them one that reduces theirs
+    let table = [(0, 1, 1), (2, 1, 1), (3, 2, 3), (4, 16, 17)];
+    for (operand, inverted, reduced) in table {
+        expect_cost(&rt, &one(&rt, Op1::Not, Term::Value(operand)), inverted);
+        expect_cost(
+            &rt,
+            &one(&rt, Op1::ReduceXor, Term::Value(operand)),
+            reduced,
+        );
+        let both = two(&rt, Op2::And, Term::Value(operand), Term::Taint(operand));
+        expect_cost(&rt, &both, inverted);
+        let same = two(&rt, Op2::Equal, Term::Value(operand), Term::Taint(operand));
+        expect_cost(&rt, &same, reduced);
+    }
+}
+
+#[test]
+fn costs_of_parts(rt: HostRuntime) {
+    let select = one(&rt, Op1::ReduceOr, Term::Value(4));
+    let inverted = one(&rt, Op1::Not, Term::Value(3));
+    // 17, 2, and 2 for the choice itself
+    let chosen = choose(&rt, select, inverted, Term::Taint(3));
+    expect_cost(&rt, &chosen, 21);
+    // what is named is paid for once, and a place of it costs nothing
+    let twice = two(&rt, Op2::Or, Term::Bound(0), Term::Bound(0));
+    expect_cost(&rt, &name(&rt, chosen, pick(&rt, twice, &[4_096])), 23);
+}

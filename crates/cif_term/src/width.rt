@@ -11,7 +11,7 @@ use crate::scope::Scope;
 use crate::term::Term;
 
 /// This width, where a part can have it: 1 to 65,536 bits.
-fn sized(width: usize) -> Option<u32>
+pub(crate) fn sized(width: usize) -> Option<u32>
     ensures { result ≡ sized width }
 {
     if 1 <= width && width <= 65_536 {
@@ -22,14 +22,14 @@ fn sized(width: usize) -> Option<u32>
 }
 
 /// The width of an operand.
-fn operand_width(operands: &[u32], place: u32) -> Option<u32>
+pub(crate) fn operand_width(operands: &[u32], place: u32) -> Option<u32>
     ensures { result ≡ sized_option (slice_get operands.now place) }
 {
     sized(*operands.get(place as usize)? as usize)
 }
 
 /// The width of what is named at a depth.
-fn bound_width(names: &Scope<u32>, depth: u32) -> Option<u32>
+pub(crate) fn bound_width(names: &Scope<u32>, depth: u32) -> Option<u32>
     ensures { result ≡ sized_option (slice_get (named_in names.now) depth) }
 {
     sized(*names.get(depth)? as usize)
@@ -43,7 +43,7 @@ fn are_within(places: &[u32], width: u32) -> bool
 }
 
 /// As many bits as there are places, where each of them lies in the part.
-fn pick_width(places: &[u32], part: Option<u32>) -> Option<u32>
+pub(crate) fn pick_width(places: &[u32], part: Option<u32>) -> Option<u32>
     ensures { result ≡ pick_width places.now part }
 {
     let part = part?;
@@ -55,7 +55,7 @@ fn pick_width(places: &[u32], part: Option<u32>) -> Option<u32>
 }
 
 /// The widths of both parts together.
-fn join_width(low: Option<u32>, high: Option<u32>) -> Option<u32>
+pub(crate) fn join_width(low: Option<u32>, high: Option<u32>) -> Option<u32>
     ensures { result ≡ join_width low high }
 {
     let low = low?;
@@ -64,7 +64,7 @@ fn join_width(low: Option<u32>, high: Option<u32>) -> Option<u32>
 }
 
 /// What an operation on one part gives.
-fn one_width(op: Op1, part: Option<u32>) -> Option<u32>
+pub(crate) fn one_width(op: Op1, part: Option<u32>) -> Option<u32>
     ensures { result ≡ one_width_option op part }
 {
     let part = part?;
@@ -75,7 +75,7 @@ fn one_width(op: Op1, part: Option<u32>) -> Option<u32>
 }
 
 /// The width of two parts, where it is the same.
-fn same_width(first: Option<u32>, second: Option<u32>) -> Option<u32>
+pub(crate) fn same_width(first: Option<u32>, second: Option<u32>) -> Option<u32>
     ensures { result ≡ same_width first second }
 {
     let first = first?;
@@ -84,7 +84,7 @@ fn same_width(first: Option<u32>, second: Option<u32>) -> Option<u32>
 }
 
 /// What an operation on two parts of this width gives.
-fn two_width(op: Op2, parts: Option<u32>) -> Option<u32>
+pub(crate) fn two_width(op: Op2, parts: Option<u32>) -> Option<u32>
     ensures { result ≡ two_width_option op parts }
 {
     let parts = parts?;
@@ -98,7 +98,7 @@ fn two_width(op: Op2, parts: Option<u32>) -> Option<u32>
 }
 
 /// The width of either part, where the select has one bit.
-fn choose_width(select: Option<u32>, parts: Option<u32>) -> Option<u32>
+pub(crate) fn choose_width(select: Option<u32>, parts: Option<u32>) -> Option<u32>
     ensures { result ≡ choose_width select parts }
 {
     if select? == 1 { parts } else { None }
