@@ -1,5 +1,5 @@
 -- What the fields of a `Netlist` hold: the netlist of its raw module.
-use Rattle.std.specs.Prelude.{◌≡◌, ◌≤◌, List, length}
+use Rattle.std.specs.Prelude.{◌≡◌, ◌≤◌, ℕ, List, length, Option}
 use Rattle.cif_defs.specs.Words.{Word}
 use Rattle.cif_defs.specs.Cells.{Cell}
 use Rattle.cif_defs.specs.Accepted.{netlist_of}
@@ -8,8 +8,9 @@ use Rattle.cif_defs.specs.declared.nets.Wire.{Wire}
 use Rattle.cif_defs.specs.declared.nets.Driver.{Driver}
 use Rattle.cif_defs.specs.declared.raw_module.Raw.{Raw}
 use Rattle.cif_cells.specs.Checks.{IsAccepted}
+use Rattle.cif_cells.specs.ClockBit.{clock_of}
 
-pub record Holds (raw : Raw) (inputs outputs : List Wire) (cells : List Cell) (drivers : List Driver) (initial : List Word) : Type 0 where
+pub record Holds (raw : Raw) (inputs outputs : List Wire) (cells : List Cell) (drivers : List Driver) (initial : List Word) (clock : Option ℕ) : Type 0 where
   pub accepted : IsAccepted raw
   pub wired : IsWired (netlist_of raw)
   pub few_cells : length (netlist_of raw).cells ≤ 400000
@@ -19,3 +20,4 @@ pub record Holds (raw : Raw) (inputs outputs : List Wire) (cells : List Cell) (d
   pub same_cells : cells ≡ (netlist_of raw).cells
   pub same_drivers : drivers ≡ (netlist_of raw).drivers
   pub same_initial : initial ≡ (netlist_of raw).initial
+  pub same_clock : clock ≡ clock_of raw

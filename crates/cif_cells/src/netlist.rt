@@ -7,11 +7,12 @@ ghost use Rattle.cif_defs.specs.Accepted.{netlist_of};
 ghost use Rattle.cif_defs.specs.Netlist.{driver_of, IsWired};
 ghost use Rattle.cif_defs.specs.RawModule.{net_numbers};
 ghost use Rattle.cif_cells.specs.Checks.{IsAccepted};
+ghost use Rattle.cif_cells.specs.ClockBit.{clock_of};
 ghost use Rattle.cif_cells.specs.Inits.{init_of};
 
 use crate::assemble::{cells_of, inputs_of, outputs_of};
 use crate::cell::Cell;
-use crate::drivers::drivers_of;
+use crate::drivers::{clock_bit, drivers_of};
 use crate::inits::{InitBit, initial_words};
 use crate::nets::Nets;
 use crate::state::total_bits;
@@ -29,6 +30,7 @@ pub struct Netlist {
     cells: Vec<Cell>,
     drivers: Vec<Driver>,
     initial: Vec<Listed<bool>>,
+    clock: Option<NetBit>,
 }
 
 impl Model for Netlist {
@@ -40,7 +42,7 @@ impl Model for Netlist {
 
     ghost view = { λ n. n.raw };
 
-    ghost invariant = { λ n. Holds n.raw n.inputs.items n.outputs.items n.cells.items n.drivers.items n.initial.items };
+    ghost invariant = { λ n. Holds n.raw n.inputs.items n.outputs.items n.cells.items n.drivers.items n.initial.items n.clock };
 }
 
 impl Netlist {
@@ -61,6 +63,7 @@ impl Netlist {
         let cells = cells_of(alloc, numbers, raw.cells.items())?;
         let drivers = drivers_of(alloc, &nets)?;
         let initial = initial_words(alloc, raw, numbers, inits)?;
+        let clock = clock_bit(&nets);
         Ok(Netlist {
             raw: nets.into_raw(),
             inputs,
@@ -68,6 +71,7 @@ impl Netlist {
             cells,
             drivers,
             initial,
+            clock,
         })
     }
 
@@ -118,6 +122,13 @@ impl Netlist {
         ensures { result ≡ driver_of (netlist_of self.now) bit }
     {
         self.drivers[bit as usize]
+    }
+
+    /// The clock: the net bit at the clock of each register and each write port; None where there are none.
+    pub fn clock(&self) -> Option<NetBit>
+        ensures { result ≡ clock_of self.now }
+    {
+        self.clock
     }
 
     /// Bit `index` of the word with which a cell starts; a bit past its end is 0.

@@ -17,7 +17,7 @@ drivers_of-requires c = (passed c.args.nets c.requires.accepted).drivers
 
 pub invariant_of-result : goal.invariant_of-result
 invariant_of-result c =
-    holds c.args.nets c.into_raw.result c.raw-raw.result.now c.numbers-numbers.result.now _ _ _ _ _ _ _ _
+    holds c.args.nets c.into_raw.result c.raw-raw.result.now c.numbers-numbers.result.now _ _ _ _ _ _ _ _ _
     c.into_raw.ensures c.raw-raw.ensures.is c.requires.accepted c.raw-raw.ensures.few_cells c.raw-raw.ensures.few_bits
     c.numbers-numbers.ensures c.items.ensures c.items-2.ensures c.items-3.ensures
-    c.in_ok-inputs.ensures c.in_ok-outputs.ensures c.in_ok-cells.ensures c.in_ok-drivers.ensures c.in_ok-initial.ensures
+    c.in_ok-inputs.ensures c.in_ok-outputs.ensures c.in_ok-cells.ensures c.in_ok-drivers.ensures c.in_ok-initial.ensures c.clock_bit-clock.ensures
