@@ -13,3 +13,5 @@ pub mod Reads
 pub mod CellReads
 pub mod Building
 pub mod ClockBit
+pub mod Finding
+pub mod Wires

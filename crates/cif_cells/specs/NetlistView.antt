@@ -9,8 +9,9 @@ use Rattle.cif_defs.specs.declared.nets.Driver.{Driver}
 use Rattle.cif_defs.specs.declared.raw_module.Raw.{Raw}
 use Rattle.cif_cells.specs.Checks.{IsAccepted}
 use Rattle.cif_cells.specs.ClockBit.{clock_of}
+use Rattle.cif_cells.specs.Wires.{HoldsWires, Wires}
 
-pub record Holds (raw : Raw) (inputs outputs : List Wire) (cells : List Cell) (drivers : List Driver) (initial : List Word) (clock : Option ℕ) : Type 0 where
+pub record Holds (raw : Raw) (inputs outputs : List Wire) (cells : List Cell) (drivers : List Driver) (initial : List Word) (clock : Option ℕ) (wires : Wires) : Type 0 where
   pub accepted : IsAccepted raw
   pub wired : IsWired (netlist_of raw)
   pub few_cells : length (netlist_of raw).cells ≤ 400000
@@ -21,3 +22,4 @@ pub record Holds (raw : Raw) (inputs outputs : List Wire) (cells : List Cell) (d
   pub same_drivers : drivers ≡ (netlist_of raw).drivers
   pub same_initial : initial ≡ (netlist_of raw).initial
   pub same_clock : clock ≡ clock_of raw
+  pub same_wires : HoldsWires raw wires

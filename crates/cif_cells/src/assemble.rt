@@ -58,7 +58,7 @@ fn target(numbers: &[u64], bit: RawBit) -> Option<NetBit>
 }
 
 /// What some bits read.
-fn sources(alloc: Global, numbers: &[u64], bits: &[RawBit]) -> Result<Vec<Src>, AllocError>
+pub fn sources(alloc: Global, numbers: &[u64], bits: &[RawBit]) -> Result<Vec<Src>, AllocError>
     requires rising { IsStrictlyIncreasing numbers.now }
     requires few { length numbers.now < 2 ^ 32 }
     ensures { IfOk result (λ v. v.items ≡ map (source_of numbers.now) bits.now) }

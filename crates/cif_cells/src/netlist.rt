@@ -8,11 +8,14 @@ ghost use Rattle.cif_defs.specs.Netlist.{driver_of, IsWired};
 ghost use Rattle.cif_defs.specs.RawModule.{net_numbers};
 ghost use Rattle.cif_cells.specs.Checks.{IsAccepted};
 ghost use Rattle.cif_cells.specs.ClockBit.{clock_of};
+ghost use Rattle.cif_cells.specs.Finding.{found_of};
 ghost use Rattle.cif_cells.specs.Inits.{init_of};
+ghost use Rattle.cif_cells.specs.Wires.{found_seen};
 
 use crate::assemble::{cells_of, inputs_of, outputs_of};
 use crate::cell::Cell;
 use crate::drivers::{clock_bit, drivers_of};
+use crate::finding::{Found, Wires, found_in, wires_of};
 use crate::inits::{InitBit, initial_words};
 use crate::nets::Nets;
 use crate::state::total_bits;
@@ -31,6 +34,7 @@ pub struct Netlist {
     drivers: Vec<Driver>,
     initial: Vec<Listed<bool>>,
     clock: Option<NetBit>,
+    wires: Wires,
 }
 
 impl Model for Netlist {
@@ -42,7 +46,7 @@ impl Model for Netlist {
 
     ghost view = { λ n. n.raw };
 
-    ghost invariant = { λ n. Holds n.raw n.inputs.items n.outputs.items n.cells.items n.drivers.items n.initial.items n.clock };
+    ghost invariant = { λ n. Holds n.raw n.inputs.items n.outputs.items n.cells.items n.drivers.items n.initial.items n.clock n.wires };
 }
 
 impl Netlist {
@@ -64,6 +68,7 @@ impl Netlist {
         let drivers = drivers_of(alloc, &nets)?;
         let initial = initial_words(alloc, raw, numbers, inits)?;
         let clock = clock_bit(&nets);
+        let wires = wires_of(alloc, &nets)?;
         Ok(Netlist {
             raw: nets.into_raw(),
             inputs,
@@ -72,6 +77,7 @@ impl Netlist {
             drivers,
             initial,
             clock,
+            wires,
         })
     }
 
@@ -129,6 +135,13 @@ impl Netlist {
         ensures { result ≡ clock_of self.now }
     {
         self.clock
+    }
+
+    /// What stands under a name: the netname of this name, or else the port of this name.
+    pub fn find(&self, name: &[u8]) -> Found<'_>
+        ensures { found_seen result ≡ found_of self.now name.now }
+    {
+        found_in(&self.wires, name)
     }
 
     /// Bit `index` of the word with which a cell starts; a bit past its end is 0.
