@@ -14,3 +14,6 @@ pub mod CellReads
 pub mod Building
 pub mod NumberKinds
 pub mod RegisterKinds
+pub mod ClockBit
+pub mod Finding
+pub mod Wires

@@ -9,6 +9,7 @@ mod clock;
 mod drivers;
 mod drives;
 mod fault;
+mod finding;
 mod inits;
 pub mod meaning;
 mod netlist;
@@ -28,4 +29,5 @@ pub use cif_defs::{
     RawNames, RawParam, RawPort, RawPorts, Role, Src, Wire,
 };
 pub use fault::{BuildFault, Spot};
+pub use finding::Found;
 pub use netlist::Netlist;
