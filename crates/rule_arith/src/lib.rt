@@ -1,0 +1,2 @@
+//! Terms for the exact taint of sums, comparisons and equality.
+#![tactic(auto)]
