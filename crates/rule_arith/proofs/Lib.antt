@@ -4,3 +4,6 @@ pub mod Addends
 pub mod SumRules
 pub mod BoundValues
 pub mod SumValues
+pub mod Forming
+pub mod BinaryCells
+pub mod SumTaints

@@ -17,7 +17,7 @@ use Rattle.rule_arith.proofs.Turns.{cases_turn, spread_exact}
 
 -- ---- complements
 
-not_xor : (x : Bool) → not x ≡ xor x true
+pub not_xor : (x : Bool) → not x ≡ xor x true
 not_xor true = refl
 not_xor false = refl
 

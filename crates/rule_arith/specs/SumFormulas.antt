@@ -21,22 +21,25 @@ sum_taint n j k f t g u =
     Let (bounds f t) (Let (bounds g u)
       (Two Or (Two Or (taint_below n j t) (taint_below n k u)) (cases_taint (nat_lt j n) (nat_lt k n) (sum_at n j k))))
 
--- $add
-abbrev pub add_formula : Cell → Formula
-add_formula c =
-    let n : ℕ = y_width c in
-    let signed : Bool = both_signed c in
-    let a : ℕ = number_of c AWidth in
-    let b : ℕ = number_of c BWidth in
+-- operand p of m bits, extended to n bits, and its taint
+abbrev pub operand_word : ℕ → Bool → ℕ → ℕ → Formula
+operand_word n signed m p = extended n signed m (Value p)
+
+abbrev pub operand_taint : ℕ → Bool → ℕ → ℕ → Formula
+operand_taint n signed m p = extended n signed m (Taint p)
+
+-- $add of n bits, whose operands have a and b bits
+abbrev pub add_taint : ℕ → Bool → ℕ → ℕ → Formula
+add_taint n signed a b =
     sum_taint n (sign_start n signed a) (sign_start n signed b)
-      (extended n signed a (Value 0)) (extended n signed a (Taint 0)) (extended n signed b (Value 1)) (extended n signed b (Taint 1))
+      (operand_word n signed a 0) (operand_taint n signed a 0) (operand_word n signed b 1) (operand_taint n signed b 1)
 
 -- $sub: A - B is the complement of the sum of the complement of A and B
-abbrev pub sub_formula : Cell → Formula
-sub_formula c =
-    let n : ℕ = y_width c in
-    let signed : Bool = both_signed c in
-    let a : ℕ = number_of c AWidth in
-    let b : ℕ = number_of c BWidth in
+abbrev pub sub_taint : ℕ → Bool → ℕ → ℕ → Formula
+sub_taint n signed a b =
     sum_taint n (sign_start n signed a) (sign_start n signed b)
-      (One Not (extended n signed a (Value 0))) (extended n signed a (Taint 0)) (extended n signed b (Value 1)) (extended n signed b (Taint 1))
+      (One Not (operand_word n signed a 0)) (operand_taint n signed a 0) (operand_word n signed b 1) (operand_taint n signed b 1)
+
+-- a formula over the widths and the common sign of a cell's operands
+abbrev pub of_pair : (ℕ → Bool → ℕ → ℕ → Formula) → Cell → Formula
+of_pair f c = f (y_width c) (both_signed c) (number_of c AWidth) (number_of c BWidth)
