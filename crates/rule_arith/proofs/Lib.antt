@@ -7,3 +7,7 @@ pub mod SumValues
 pub mod Forming
 pub mod BinaryCells
 pub mod SumTaints
+pub mod OrderLimits
+pub mod Pairs
+pub mod Comparisons
+pub mod OrderTaints

@@ -18,13 +18,13 @@ use Rattle.rule_arith.proofs.Turns.{xor_cancel}
 abbrev pub at_bound : Bool → Bool → Bool → Bool
 at_bound upper x t = if upper then x || t else x && not t
 
-at_bound_clear : (s x t : Bool) → t ≡ false → at_bound s x t ≡ x
+pub at_bound_clear : (s x t : Bool) → t ≡ false → at_bound s x t ≡ x
 at_bound_clear true true t h = refl
 at_bound_clear true false t h = h
 at_bound_clear false true t h = ap not h
 at_bound_clear false false t h = refl
 
-at_bound_tainted : (s x t : Bool) → t ≡ true → at_bound s x t ≡ s
+pub at_bound_tainted : (s x t : Bool) → t ≡ true → at_bound s x t ≡ s
 at_bound_tainted true true t h = refl
 at_bound_tainted true false t h = h
 at_bound_tainted false true t h = ap not h
@@ -164,12 +164,12 @@ pub limit_bounds : (n : ℕ) (signed inv : Bool) (v t : Word) (low high : Bool) 
     → alu_operand n signed inv (limit (xor low inv) (xor high inv) (sign_start n signed (length v)) v t) ≡ bound_word n signed inv v t low high
 limit_bounds n signed inv v t low high e some = word-same n _ _ (λ i l. extended_limit n signed low high inv v t i e some l)
 
-least : (x t y : Bool) → (t ≡ false → y ≡ x) → Le (at_bound false x t) y
+pub least : (x t y : Bool) → (t ≡ false → y ≡ x) → Le (at_bound false x t) y
 least true false y h = λ e. h refl
 least true true y h = λ e. absurd (cc)
 least false t y h = λ e. absurd (cc)
 
-greatest : (x t y : Bool) → (t ≡ false → y ≡ x) → Le y (at_bound true x t)
+pub greatest : (x t y : Bool) → (t ≡ false → y ≡ x) → Le y (at_bound true x t)
 greatest true t y h = λ e. refl
 greatest false true y h = λ e. refl
 greatest false false y h = λ e. sym (h refl) ∙ e

@@ -28,3 +28,14 @@ half_of n k low high pair = Pick pair (half_places n k low high)
 -- the taint t of n bits below place k, and 0 from there on
 abbrev pub taint_below : ℕ → ℕ → Formula → Formula
 taint_below n k t = half_of n k false true (Join t (Const (zeros n)))
+
+-- the place from which a word of m bits, extended to n bits, shows bits that count down: its sign, where it is signed
+abbrev pub order_start : ℕ → Bool → ℕ → ℕ
+order_start n signed m = if signed then m - 1 else n
+
+-- the words of least and of greatest number between the bounds
+abbrev pub least_of : ℕ → ℕ → Formula → Formula
+least_of n k pair = half_of n k false true pair
+
+abbrev pub greatest_of : ℕ → ℕ → Formula → Formula
+greatest_of n k pair = half_of n k true false pair
