@@ -1,9 +1,9 @@
 -- What formulas of bounds and cases stand for, place by place.
-use Rattle.std.specs.Prelude.{ℕ, ◌+◌, ◌<◌, ◌≤◌, ◌≡◌, nat_lt, Bool, true, false, not, ◌&&◌, ◌||◌, List, ◌++◌, map, length, get_or, if◌then◌else◌, refl}
+use Rattle.std.specs.Prelude.{ℕ, ◌+◌, ◌<◌, ◌≤◌, ◌≡◌, nat_lt, Bool, true, false, not, ◌&&◌, ◌||◌, List, [], ◌∷◌, ◌++◌, map, length, get_or, if◌then◌else◌, refl}
 use Rattle.std.specs.List.{range_with_len}
 use Rattle.std.proofs.Common.{arith, sym, ap, ◌∙◌}
 use Rattle.std.proofs.lemmas.List.{length-map, get_or-map, get_or_append_left, get_or-append_right}
-use Rattle.std.proofs.lemmas.List.FromFn.{fill_by_all, length-range_with_len, get_or-range_with_len}
+use Rattle.std.proofs.lemmas.List.FromFn.{fill_by_all, map-range_with_len_more, length-range_with_len, get_or-range_with_len}
 use Rattle.cif_defs.specs.Words.{Word, bit, word, xor, zeros}
 use Rattle.cif_defs.proofs.WordLaws.{bit-word, length-word}
 use Rattle.cif_defs.proofs.Numbers.{word-same}
@@ -17,6 +17,10 @@ use Rattle.rule_arith.proofs.Limits.{at_bound}
 use Rattle.rule_arith.proofs.Turns.{case_turns, cases_turn, joined_bit, second_turns}
 
 -- ---- pairs of words
+
+-- one more place
+pub place_push : (f : ℕ → ℕ) (n : ℕ) (u v : List ℕ) (k : ℕ) → u ≡ map f (range_with_len 0 n) → v ≡ u ++ k ∷ [] → k ≡ f n → v ≡ map f (range_with_len 0 (n + 1))
+place_push f n u v k e g h = grind (arith, map-range_with_len_more f 0 n n)
 
 joined_values : (f g : Formula) (vs ts named : List Word) (u w : Word) → value_of f vs ts named ≡ u → value_of g vs ts named ≡ w → value_of (Join f g) vs ts named ≡ u ++ w
 joined_values f g vs ts named u w p q = ap (λ (x : Word). x ++ value_of g vs ts named) p ∙ ap (λ (x : Word). u ++ x) q

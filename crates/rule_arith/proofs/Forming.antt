@@ -14,8 +14,9 @@ use Rattle.cif_term.specs.Formulas.{Formula, Const, Pick, Join, One, Two, Bound,
 use Rattle.cif_term.proofs.Forms.{formed_bound, formed_const, formed_join, formed_let, formed_one, formed_pick, formed_two, pieces_narrow, raised}
 use Rattle.rule_arith.specs.Bounds.{bounds, half_of, half_places, is_upper, taint_below}
 use Rattle.rule_arith.specs.Cases.{case_taint, cases_taint, joined, second_taint}
-use Rattle.rule_arith.specs.SumFormulas.{sum_at, sum_taint}
+use Rattle.rule_arith.specs.SumFormulas.{sum_at, sum_formula}
 use Rattle.rule_arith.proofs.BoundValues.{length-half_places}
+use Rattle.rule_arith.proofs.SumValues.{plain_sums}
 
 -- ---- operations on words of at most 4,096 bits cost 1
 
@@ -98,7 +99,7 @@ formed_cases false second g ws named n k h all = raised (14 * k + 13) (formed_se
 
 -- ---- sums
 
-formed_sum_at : (ws named : List ℕ) (n j k : ℕ) → 1 ≤ n → n ≤ 128 → AllFormed (sum_at n j k) ws ((n + n) ∷ (n + n) ∷ named) n 1
+formed_sum_at : (ws named : List ℕ) (n j k : ℕ) → 1 ≤ n → n ≤ 128 → AllFormed (sum_at (plain_sums n j k)) ws ((n + n) ∷ (n + n) ∷ named) n 1
 formed_sum_at ws named n j k some h upper p q =
     two_more Add (omega arith) (λ e. h)
     (formed_half j upper p some (omega arith) (formed_bound ws ((n + n) ∷ (n + n) ∷ named) 1 (n + n) refl (omega arith) (omega arith)))
@@ -109,11 +110,11 @@ abbrev pub Forms : Formula → List ℕ → ℕ → ℕ → Type 0
 Forms f ws n k = (named : List ℕ) → IsFormed f ws named n k
 
 -- with no more than one operation before the sum on each addend
-pub formed_sum_taint : (f t g u : Formula) (ws : List ℕ) (n j k : ℕ) → 1 ≤ n → n ≤ 128 → Forms f ws n 1 → Forms t ws n 0 → Forms g ws n 0 → Forms u ws n 0 → (named : List ℕ)
-    → IsFormed (sum_taint n j k f t g u) ws named n 37
-formed_sum_taint f t g u ws n j k some h a b c d named =
+pub formed_sum_formula : (f t g u : Formula) (ws : List ℕ) (n j k : ℕ) → 1 ≤ n → n ≤ 128 → Forms f ws n 1 → Forms t ws n 0 → Forms g ws n 0 → Forms u ws n 0 → (named : List ℕ)
+    → IsFormed (sum_formula n j k f t g u) ws named n 37
+formed_sum_formula f t g u ws n j k some h a b c d named =
     let inner : List ℕ = (n + n) ∷ (n + n) ∷ named in
     raised 37 (formed_let (formed_bounds some (omega arith) (a named) (b named)) (formed_let (formed_bounds some (omega arith) (c ((n + n) ∷ named)) (d ((n + n) ∷ named)))
       (two_more Or (omega arith) (λ e. absurd (cc))
         (two_more Or (omega arith) (λ e. absurd (cc)) (formed_below j some (omega arith) (b inner)) (formed_below k some (omega arith) (d inner)))
-        (formed_cases (nat_lt j n) (nat_lt k n) (sum_at n j k) ws inner n 1 (omega arith) (formed_sum_at ws named n j k some h))))) (omega arith)
+        (formed_cases (nat_lt j n) (nat_lt k n) (sum_at (plain_sums n j k)) ws inner n 1 (omega arith) (formed_sum_at ws named n j k some h))))) (omega arith)

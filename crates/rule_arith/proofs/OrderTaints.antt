@@ -24,7 +24,8 @@ use Rattle.cif_term.proofs.Forms.{formed_bound, formed_extended, formed_let, rai
 use Rattle.cif_term.proofs.Values.{value-extended, value-xor}
 use Rattle.rule_arith.specs.Bounds.{bounds, greatest_of, half_of, least_of, order_start}
 use Rattle.rule_arith.specs.OrderFormulas.{greater_taint, less_bit, less_op, less_taint}
-use Rattle.rule_arith.specs.SumFormulas.{of_pair, operand_taint, operand_word}
+use Rattle.rule_arith.specs.Addends.{operand_taint, operand_word}
+use Rattle.rule_arith.specs.SumFormulas.{of_pair}
 use Rattle.rule_arith.proofs.BinaryCells.{IsBinary, RowIsExact, binary_cell, pair_taint}
 use Rattle.rule_arith.proofs.BoundValues.{value-bound, value-bounds}
 use Rattle.rule_arith.proofs.Comparisons.{ge_exact, gt_exact, le_exact, less_rule, lt_exact}

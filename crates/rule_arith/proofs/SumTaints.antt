@@ -20,11 +20,12 @@ use Rattle.cif_term.proofs.CellTaints.{one_output}
 use Rattle.cif_term.proofs.Forms.{formed_extended, formed_taint, formed_value, raised}
 use Rattle.cif_term.proofs.Values.{value-extended, value-not}
 use Rattle.rule_arith.specs.Bounds.{sign_start}
-use Rattle.rule_arith.specs.SumFormulas.{add_taint, of_pair, operand_taint, operand_word, sub_taint, sum_taint}
+use Rattle.rule_arith.specs.Addends.{operand_taint, operand_word}
+use Rattle.rule_arith.specs.SumFormulas.{add_taint, of_pair, sub_taint, sum_formula}
 use Rattle.rule_arith.proofs.BinaryCells.{IsBinary, RowIsExact, binary_cell, pair_taint}
-use Rattle.rule_arith.proofs.Forming.{Forms, formed_sum_taint, one_more}
+use Rattle.rule_arith.proofs.Forming.{Forms, formed_sum_formula, one_more}
 use Rattle.rule_arith.proofs.SumRules.{add_exact, not_xor, pair_rule, sub_exact, xor_none}
-use Rattle.rule_arith.proofs.SumValues.{Gives, value-sum_taint}
+use Rattle.rule_arith.proofs.SumValues.{Gives, value-sum_formula}
 
 -- ---- operands as formulas
 
@@ -57,7 +58,7 @@ at_second c limit b = ap (λ ws. slice_get ws 1) b.widths
 
 -- a sum of both operands, of which the first comes by one operation at most
 pair_formed : (c : Cell) (f : Formula) → IsBinary c 128 → Forms f (operand_widths c) (y_width c) 1
-    → IsFormed (sum_taint (y_width c) (sign_start (y_width c) (both_signed c) (number_of c AWidth)) (sign_start (y_width c) (both_signed c) (number_of c BWidth))
+    → IsFormed (sum_formula (y_width c) (sign_start (y_width c) (both_signed c) (number_of c AWidth)) (sign_start (y_width c) (both_signed c) (number_of c BWidth))
       f (operand_taint (y_width c) (both_signed c) (number_of c AWidth) 0)
       (operand_word (y_width c) (both_signed c) (number_of c BWidth) 1) (operand_taint (y_width c) (both_signed c) (number_of c BWidth) 1))
       (operand_widths c) [] (y_width c) 37
@@ -69,7 +70,7 @@ pair_formed c f b h =
     let few : n ≤ 128 = b.few_y in
     let few_a : number_of c AWidth ≤ 128 = b.few_a in
     let few_b : number_of c BWidth ≤ 128 = b.few_b in
-    formed_sum_taint f (operand_taint n signed (number_of c AWidth) 0) (operand_word n signed (number_of c BWidth) 1) (operand_taint n signed (number_of c BWidth) 1)
+    formed_sum_formula f (operand_taint n signed (number_of c AWidth) 0) (operand_word n signed (number_of c BWidth) 1) (operand_taint n signed (number_of c BWidth) 1)
     ws n (sign_start n signed (number_of c AWidth)) (sign_start n signed (number_of c BWidth)) some few h
     (forms_taint ws n (number_of c AWidth) signed 0 (at_first c 128 b) b.some_a (omega arith) some (omega arith))
     (forms_value ws n (number_of c BWidth) signed 1 (at_second c 128 b) b.some_b (omega arith) some (omega arith))
@@ -88,7 +89,7 @@ add_value : (n : ℕ) (signed : Bool) (a ta b tb : Word) → length ta ≡ lengt
 add_value n signed a ta b tb e f some_a some_b =
     let vs : List Word = a ∷ b ∷ [] in
     let ts : List Word = ta ∷ tb ∷ [] in
-    value-sum_taint n (sign_start n signed (length a)) (sign_start n signed (length b))
+    value-sum_formula n (sign_start n signed (length a)) (sign_start n signed (length b))
     (operand_word n signed (length a) 0) (operand_taint n signed (length a) 0) (operand_word n signed (length b) 1) (operand_taint n signed (length b) 1)
     (λ i. xor (extended_bit signed i a) false) (λ i. extended_bit signed i ta) (λ i. xor (extended_bit signed i b) false) (λ i. extended_bit signed i tb) vs ts []
     (gives_plain n (length a) signed 0 vs ts refl some_a) (gives_taint n (length a) signed 0 vs ts e some_a)
@@ -124,7 +125,7 @@ sub_value : (n : ℕ) (signed : Bool) (a ta b tb : Word) → length ta ≡ lengt
 sub_value n signed a ta b tb e f some_a some_b =
     let vs : List Word = a ∷ b ∷ [] in
     let ts : List Word = ta ∷ tb ∷ [] in
-    value-sum_taint n (sign_start n signed (length a)) (sign_start n signed (length b))
+    value-sum_formula n (sign_start n signed (length a)) (sign_start n signed (length b))
     (One Not (operand_word n signed (length a) 0)) (operand_taint n signed (length a) 0) (operand_word n signed (length b) 1) (operand_taint n signed (length b) 1)
     (λ i. xor (extended_bit signed i a) true) (λ i. extended_bit signed i ta) (λ i. xor (extended_bit signed i b) false) (λ i. extended_bit signed i tb) vs ts []
     (gives_complement n (length a) signed 0 vs ts refl some_a) (gives_taint n (length a) signed 0 vs ts e some_a)

@@ -1,5 +1,5 @@
 -- What the formulas of sums stand for.
-use Rattle.std.specs.Prelude.{ℕ, ◌+◌, ◌<◌, ◌≤◌, ◌≡◌, nat_lt, Bool, true, false, not, ◌&&◌, ◌||◌, List, [], ◌∷◌, ◌++◌, length, refl}
+use Rattle.std.specs.Prelude.{ℕ, ◌+◌, ◌<◌, ◌≤◌, ◌≡◌, nat_lt, Bool, true, false, not, ◌&&◌, ◌||◌, List, [], ◌∷◌, ◌++◌, length, None, refl}
 use Rattle.std.proofs.Common.{arith, sym, ap, ◌∙◌}
 use Rattle.std.proofs.lemmas.List.FromFn.{fill_by_all}
 use Rattle.cif_defs.specs.Meanings.{add_word, alu_operand}
@@ -11,9 +11,10 @@ use Rattle.cif_defs.proofs.Sums.{sum_bit}
 use Rattle.cif_term.specs.declared.ops.Op2.TheVariants.{Add, Or}
 use Rattle.cif_term.specs.Formulas.{Formula, Bound, Two, Let, value_of}
 use Rattle.cif_term.proofs.Values.{value-or}
+use Rattle.rule_arith.specs.declared.sums.Sums.{Sums}
 use Rattle.rule_arith.specs.Bounds.{bounds, half_of, is_upper, taint_below}
 use Rattle.rule_arith.specs.Cases.{cases_taint}
-use Rattle.rule_arith.specs.SumFormulas.{sum_at, sum_taint}
+use Rattle.rule_arith.specs.SumFormulas.{sum_at, sum_formula, sums_taint}
 use Rattle.rule_arith.proofs.BoundValues.{value-bound, value-bounds, value-cases, value-taint_below}
 use Rattle.rule_arith.proofs.Limits.{at_bound}
 use Rattle.rule_arith.proofs.SumRules.{xor_none}
@@ -40,6 +41,9 @@ value-add n p q f g vs ts named a b =
 
 -- ---- the taint of a sum
 
+abbrev pub plain_sums : ℕ → ℕ → ℕ → Sums
+plain_sums n j k = record { width = n; first = 1; first_start = j; second = 0; second_start = k; carry = None }
+
 -- a bound of an addend with bits p and taint q
 abbrev pub bound_at : ℕ → ℕ → (ℕ → Bool) → (ℕ → Bool) → Bool → Bool → Word
 bound_at n k p q upper side = word n (λ i. at_bound (is_upper k upper side i) (p i) (q i))
@@ -53,17 +57,17 @@ sum_rule n j k pf pt pg pu i =
 abbrev pub Gives : ℕ → List Word → List Word → Formula → (ℕ → Bool) → Type 0
 Gives n vs ts f p = (named : List Word) → value_of f vs ts named ≡ word n p
 
-pub value-sum_taint : (n j k : ℕ) (f t g u : Formula) (pf pt pg pu : ℕ → Bool) (vs ts named : List Word) → Gives n vs ts f pf → Gives n vs ts t pt → Gives n vs ts g pg → Gives n vs ts u pu
-    → value_of (sum_taint n j k f t g u) vs ts named ≡ word n (sum_rule n j k pf pt pg pu)
-value-sum_taint n j k f t g u pf pt pg pu vs ts named a b c d =
+pub value-sum_formula : (n j k : ℕ) (f t g u : Formula) (pf pt pg pu : ℕ → Bool) (vs ts named : List Word) → Gives n vs ts f pf → Gives n vs ts t pt → Gives n vs ts g pg → Gives n vs ts u pu
+    → value_of (sum_formula n j k f t g u) vs ts named ≡ word n (sum_rule n j k pf pt pg pu)
+value-sum_formula n j k f t g u pf pt pg pu vs ts named a b c d =
     let first : Word = value_of (bounds f t) vs ts named in
     let second : Word = value_of (bounds g u) vs ts (first ∷ named) in
     let inner : List Word = second ∷ first ∷ named in
     value-or n (λ i. (nat_lt i j && pt i) || (nat_lt i k && pu i))
       (λ i. cases_turn (nat_lt j n) (nat_lt k n) (λ upper p q. sum_bit false (bound_at n j pf pt upper p) (bound_at n k pg pu upper q) i))
-      (Two Or (taint_below n j t) (taint_below n k u)) (cases_taint (nat_lt j n) (nat_lt k n) (sum_at n j k)) vs ts inner
+      (Two Or (taint_below n j t) (taint_below n k u)) (cases_taint (nat_lt j n) (nat_lt k n) (sum_at (plain_sums n j k))) vs ts inner
       (value-or n _ _ (taint_below n j t) (taint_below n k u) vs ts inner (value-taint_below n j pt t vs ts inner (b inner)) (value-taint_below n k pu u vs ts inner (d inner)))
-      (value-cases n (nat_lt j n) (nat_lt k n) (sum_at n j k) (λ i upper p q. sum_bit false (bound_at n j pf pt upper p) (bound_at n k pg pu upper q) i) vs ts inner
+      (value-cases n (nat_lt j n) (nat_lt k n) (sum_at (plain_sums n j k)) (λ i upper p q. sum_bit false (bound_at n j pf pt upper p) (bound_at n k pg pu upper q) i) vs ts inner
         (λ upper p q. value-add n _ _ (half_of n j upper p (Bound 1)) (half_of n k upper q (Bound 0)) vs ts inner
           (value-bound n j upper p pf pt (Bound 1) vs ts inner (value-bounds n pf pt f t vs ts named (a named) (b named)))
           (value-bound n k upper q pg pu (Bound 0) vs ts inner (value-bounds n pg pu g u vs ts (first ∷ named) (c (first ∷ named)) (d (first ∷ named))))))

@@ -5,7 +5,7 @@ use Rattle.cif_term.specs.declared.ops.Op2.TheVariants.{LessSigned, LessUnsigned
 use Rattle.cif_term.specs.Extended.{extended}
 use Rattle.cif_term.specs.Formulas.{Formula, Bound, Two, Let}
 use Rattle.rule_arith.specs.Bounds.{bounds, greatest_of, least_of, order_start}
-use Rattle.rule_arith.specs.SumFormulas.{operand_taint, operand_word}
+use Rattle.rule_arith.specs.Addends.{operand_taint, operand_word}
 
 abbrev pub less_op : Bool → Op2
 less_op signed = if signed then LessSigned else LessUnsigned
