@@ -1,0 +1,13 @@
+pub mod Turns
+pub mod Limits
+pub mod Addends
+pub mod SumRules
+pub mod BoundValues
+pub mod SumValues
+pub mod Forming
+pub mod BinaryCells
+pub mod SumTaints
+pub mod OrderLimits
+pub mod Pairs
+pub mod Comparisons
+pub mod OrderTaints

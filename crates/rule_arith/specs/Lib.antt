@@ -1,0 +1,5 @@
+pub mod Bounds
+pub mod Cases
+pub mod Addends
+pub mod SumFormulas
+pub mod OrderFormulas
