@@ -1,9 +1,5 @@
 -- What the fields of a `Netlist` hold: the netlist of its raw module.
-<<<<<<< HEAD
-use Rattle.std.specs.Prelude.{ℕ, ◌≡◌, ◌<◌, ◌≤◌, List, length, get_or}
-=======
-use Rattle.std.specs.Prelude.{◌≡◌, ◌≤◌, ℕ, List, length, Option}
->>>>>>> 6dd84e9c724bce42833d3b6ae063077e72d026cd
+use Rattle.std.specs.Prelude.{ℕ, ◌≡◌, ◌<◌, ◌≤◌, List, length, get_or, Option}
 use Rattle.cif_defs.specs.Words.{Word}
 use Rattle.cif_defs.specs.Cells.{Cell}
 use Rattle.cif_defs.specs.Accepted.{netlist_of}
@@ -26,12 +22,9 @@ pub record Holds (raw : Raw) (inputs outputs : List Wire) (cells : List Cell) (d
   pub same_cells : cells ≡ (netlist_of raw).cells
   pub same_drivers : drivers ≡ (netlist_of raw).drivers
   pub same_initial : initial ≡ (netlist_of raw).initial
-<<<<<<< HEAD
+  pub same_clock : clock ≡ clock_of raw
+  pub same_wires : HoldsWires raw wires
 
 -- each cell has ports as wide as the table of kinds says; opaque, so that a search does not try each cell
 unfoldable pub AreFitted : List Cell → Type 0
 AreFitted cells = (i : ℕ) → i < length cells → IsFitted (get_or cells i no_cell)
-=======
-  pub same_clock : clock ≡ clock_of raw
-  pub same_wires : HoldsWires raw wires
->>>>>>> 6dd84e9c724bce42833d3b6ae063077e72d026cd

@@ -10,11 +10,8 @@ ghost use Rattle.cif_cells.specs.Checks.{IsAccepted};
 ghost use Rattle.cif_cells.specs.ClockBit.{clock_of};
 ghost use Rattle.cif_cells.specs.Finding.{found_of};
 ghost use Rattle.cif_cells.specs.Inits.{init_of};
-<<<<<<< HEAD
 ghost use Rattle.cif_cells.specs.NetlistView.{AreFitted};
-=======
 ghost use Rattle.cif_cells.specs.Wires.{found_seen};
->>>>>>> 6dd84e9c724bce42833d3b6ae063077e72d026cd
 
 use crate::assemble::{cells_of, inputs_of, outputs_of};
 use crate::cell::Cell;
