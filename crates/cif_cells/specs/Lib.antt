@@ -12,3 +12,4 @@ pub mod Clocks
 pub mod Reads
 pub mod CellReads
 pub mod Building
+pub mod CellPorts
