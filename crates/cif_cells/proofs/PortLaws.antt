@@ -1,9 +1,9 @@
 -- The ports of a fitted cell, read off the table of kinds.
-use Rattle.std.specs.Prelude.{ℕ, zero, suc, ◌+◌, ◌*◌, ◌^◌, ◌<◌, ◌≤◌, ◌≡◌, ◌≢◌, Bool, true, false, List, [], ◌∷◌, length, map, get_or, refl}
-use Rattle.std.proofs.Common.{arith, sym, ap, ◌∙◌, subst, lit≤}
+use Rattle.std.specs.Prelude.{ℕ, zero, suc, ◌+◌, ◌*◌, ◌^◌, ◌<◌, ◌≤◌, ◌≡◌, ◌≢◌, true, List, [], ◌∷◌, length, map, get_or, refl}
+use Rattle.std.proofs.Common.{arith, sym, ap, ◌∙◌, subst}
 use Rattle.std.proofs.lemmas.List.{length-map}
 use Rattle.cif_defs.specs.Words.{Word, operand}
-use Rattle.cif_defs.specs.Cells.{Cell, number_of, y_width, width}
+use Rattle.cif_defs.specs.Cells.{Cell, number_of, width}
 use Rattle.cif_defs.specs.Table.{operands_of, outputs_of, width_limit, row, a_row, b_row, y_row}
 use Rattle.cif_defs.specs.Fitted.{AllWithin, IsFitted, IsWithin, operand_widths, row_width}
 use Rattle.cif_defs.specs.declared.kinds.Kind.{Kind}
@@ -46,7 +46,7 @@ operand_fits c us k rows p r e other f shape is h g =
 pub operand_count : (c : Cell) (us : List Word) (k : Kind) (rows : List PortRow) → c.kind ≡ k → IsFitted c → map length us ≡ operand_widths c → operands_of k ≡ rows → length us ≡ length rows
 operand_count c us k rows e f shape is =
     let same : map length us ≡ map (row_width c) rows = shape ∙ f.operands ∙ ap (λ x. map (row_width c) (operands_of x)) e ∙ ap (map (row_width c)) is in
-    omega (arith, ap length same, length-map length us, length-map (row_width c) rows)
+    sym (length-map us length) ∙ ap length same ∙ length-map rows (row_width c)
 
 -- the first output
 pub output_fits : (c : Cell) (k : Kind) (r : PortRow) (rows : List PortRow) → c.kind ≡ k → k ≢ Mem → IsFitted c → outputs_of k ≡ r ∷ rows → IsWithin c r

@@ -13,3 +13,5 @@ pub mod Reads
 pub mod CellReads
 pub mod Building
 pub mod CellPorts
+pub mod NumberKinds
+pub mod RegisterKinds

@@ -10,7 +10,7 @@ mod drivers;
 mod drives;
 mod fault;
 mod inits;
-mod meaning;
+pub mod meaning;
 mod netlist;
 mod nets;
 mod numbers;

@@ -1,7 +1,8 @@
 // What the kinds of cells that work bit by bit give.
 //
-// The meanings are those of the Yosys cell library for operands without x. Words have their lowest bit first. Each
-// function may answer want of memory, and changes nothing then.
+// The meanings are those of the Yosys cell library for operands without x. Words have their lowest bit first. The
+// output has at most 65,536 bits, and the operands have at least one. Each function may answer want of memory, and
+// changes nothing then.
 ghost use Rattle.std.specs.Prelude.{◌≡◌, ◌<◌, ◌≤◌, length, IfOk};
 ghost use Rattle.cif_defs.specs.Meanings.{not_word, pos_word, and_word, or_word, xor_word, xnor_word, fa_majority_word, fa_sum_word};
 

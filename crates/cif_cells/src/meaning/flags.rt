@@ -1,7 +1,8 @@
 // What the kinds of cells that answer yes or no give: the answer in the lowest bit, and zeros above it.
 //
 // The meanings are those of the Yosys cell library for operands without x. Operands are taken as they stand, whatever
-// their widths and signs. Each function may answer want of memory, and changes nothing then.
+// their widths and signs. The output has 1 to 65,536 bits. Each function may answer want of memory, and changes nothing
+// then.
 ghost use Rattle.std.specs.Prelude.{◌≡◌, ◌≤◌, IfOk};
 ghost use Rattle.cif_defs.specs.Words.{flag_word};
 ghost use Rattle.cif_defs.specs.Meanings.{reduce_and_word, reduce_or_word, reduce_xor_word, reduce_xnor_word, logic_not_word, logic_and_word, logic_or_word};

@@ -1,24 +1,18 @@
-// What a combinational cell gives, by its kind: the parameters and operands that the row of its kind takes.
-ghost use Rattle.std.specs.Prelude.{◌≡◌, ◌==◌, ◌<◌, ◌≤◌, List, [], ◌∷◌, true, length, map, IfOk};
-ghost use Rattle.cif_defs.specs.Words.{operand as operand_of};
+// What a combinational cell gives that works on no numbers, by its kind: the parameters and operands that it takes.
+//
+// The operands have the widths that the cell says. Each function may answer want of memory, and changes nothing then.
+ghost use Rattle.std.specs.Prelude.{◌≡◌, ◌==◌, ◌≤◌, [], ◌∷◌, true, IfOk};
 ghost use Rattle.cif_defs.specs.Cells.{number_of, both_signed, meaning};
 ghost use Rattle.cif_cells.specs.CellPorts.{is_unary, is_binary, is_shift, HasUnaryPorts, HasBinaryPorts, HasShiftPorts, HasConcatPorts, HasSlicePorts, HasFaPorts, HasMuxPorts, HasPmuxPorts, HasBmuxPorts, HasDemuxPorts, HasLutPorts};
 
 use crate::cell::Cell;
+use crate::meaning::numbers::operand;
 use crate::meaning::{bitwise, choices, flags, joins, shifts};
 use cif_bits::{Bits, NoMemory};
 use cif_defs::{Kind, Param};
 use std::alloc::Global;
 
 // ---- reading a cell
-
-/// The word of operand `port`.
-fn operand(operands: &[Bits], port: usize) -> &Bits
-    requires { port < length operands.now }
-    ensures { result.now ≡ operand_of operands.now port }
-{
-    &operands[port]
-}
 
 /// The number of a parameter that is at most 65,536.
 fn small_number(cell: &Cell, param: Param) -> u32
@@ -204,13 +198,13 @@ pub fn fa_words(alloc: Global, cell: &Cell, operands: &[Bits]) -> Result<Vec<Bit
     let c = operand(operands, 2);
     let majority = bitwise::fa_majority_word(alloc, width, a, b, c)?;
     let sum = bitwise::fa_sum_word(alloc, width, a, b, c)?;
-    two_words(alloc, majority, sum)
+    two(alloc, majority, sum)
 }
 
 // ---- lists of words
 
 /// A list of one word.
-pub fn one_word(alloc: Global, word: Bits) -> Result<Vec<Bits>, NoMemory>
+pub fn one(alloc: Global, word: Bits) -> Result<Vec<Bits>, NoMemory>
     ensures { IfOk result (λ ws. ws.items ≡ word ∷ []) }
 {
     let mut words = Vec::with_capacity(alloc, 1)?;
@@ -219,7 +213,7 @@ pub fn one_word(alloc: Global, word: Bits) -> Result<Vec<Bits>, NoMemory>
 }
 
 /// A list of two words.
-fn two_words(alloc: Global, first: Bits, second: Bits) -> Result<Vec<Bits>, NoMemory>
+fn two(alloc: Global, first: Bits, second: Bits) -> Result<Vec<Bits>, NoMemory>
     ensures { IfOk result (λ ws. ws.items ≡ first ∷ second ∷ []) }
 {
     let mut words = Vec::with_capacity(alloc, 2)?;

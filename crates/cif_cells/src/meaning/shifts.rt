@@ -1,10 +1,10 @@
 // What shifts give.
 //
 // The meanings are those of the Yosys cell library for operands without x. A has a sign of its own, B is the number of
-// places, of 1 to 128 bits, and past the ends of A stand zeros or its sign, however large that number is. Words have
-// their lowest bit first. Each function may answer want of memory, and changes nothing then.
+// places, of 1 to 128 bits, and past the ends of A stand zeros or its sign, however large that number is. A and the
+// output have at most 65,536 bits, lowest first. Each function may answer want of memory, and changes nothing then.
 ghost use Rattle.std.specs.Prelude.{◌≡◌, ◌+◌, ◌-◌, ◌<◌, ◌≤◌, ◌^◌, ◌&&◌, min, max, true, length, get_or, nat_le, IfOk};
-ghost use Rattle.cif_defs.specs.Words.{bit, word, extended_bit, number, top};
+ghost use Rattle.cif_defs.specs.Words.{bit, word, number, top};
 ghost use Rattle.cif_defs.specs.Meanings.{extended_to, shl_word, shr_word, sshr_word, shift_word, shiftx_word};
 
 use cif_bits::{Bits, NoMemory};

@@ -10,4 +10,4 @@ unfolding words_by
 returns c =
     all_words _ _ _
     (both_words fa_majority_word fa_sum_word _ _ _ _ _ _ _ _ _ _ _ c.small_number-width.ensures c.operand-a.ensures c.operand-b.ensures c.operand-c.ensures c.in_ok-majority.ensures c.in_ok-sum.ensures (by_kind c.args.cell.now c.args.operands.now _ Fa _ refl c.requires.kind refl))
-    c.two_words.ensures
+    c.two.ensures
