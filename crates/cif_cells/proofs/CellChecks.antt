@@ -76,7 +76,7 @@ lut_small : (p : CellPort) → lut_limit p ≤ 65536
 lut_small A = lit≤ tt
 lut_small p = lit≤ tt
 
-limit_small : (k : Kind) (p : CellPort) → width_limit k p ≤ 65536
+pub limit_small : (k : Kind) (p : CellPort) → width_limit k p ≤ 65536
 unfolding width_limit
 limit_small Shl p = shift_small p
 limit_small Sshl p = shift_small p
