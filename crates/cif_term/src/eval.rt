@@ -88,7 +88,8 @@ fn value_in(
 impl Term {
     /// The word that the term stands for, over the words and the taints of a cell's operands.
     ///
-    /// The term is well formed for operands of these widths, and each taint has the width of its operand.
+    /// The term is well formed for operands of these widths, as `width` tells, and each taint has the width of its
+    /// operand. A failed allocation answers want of memory.
     pub fn eval(&self, alloc: Global, values: &[Bits], taints: &[Bits]) -> Result<Bits, NoMemory>
         requires formed { (n : ℕ) × (width_of (formula_of self.now) (map length values.now) [] ≡ Some n) }
         requires shape { map length taints.now ≡ map length values.now }
