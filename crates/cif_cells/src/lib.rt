@@ -11,7 +11,7 @@ mod drives;
 mod fault;
 mod finding;
 mod inits;
-mod meaning;
+mod meanings;
 mod netlist;
 mod nets;
 mod numbers;
@@ -29,7 +29,7 @@ pub use cif_defs::{
     RawNames, RawParam, RawPort, RawPorts, Role, Src, Wire,
 };
 pub use fault::{BuildFault, Spot};
-pub use meaning::meaning;
-pub use meaning::registers::{register_next, register_show};
+pub use meanings::meaning;
+pub use meanings::registers::{register_next, register_show};
 pub use finding::Found;
 pub use netlist::Netlist;
