@@ -10,6 +10,7 @@ mod drivers;
 mod drives;
 mod fault;
 mod inits;
+pub mod meaning;
 mod netlist;
 mod nets;
 mod numbers;
