@@ -19,7 +19,7 @@ use Rattle.cif_defs.specs.declared.raw_module.Raw.{Raw}
 use Rattle.cif_defs.specs.Kinds.{role_of}
 use Rattle.cif_defs.specs.Fitted.{IsFitted, operand_widths}
 use Rattle.cif_defs.specs.declared.kinds.Kind.{Kind}
-use Rattle.cif_defs.specs.declared.kinds.Kind.TheVariants.{Mem}
+use Rattle.cif_defs.specs.declared.kinds.Kind.TheVariants.{Dff, Mem}
 use Rattle.cif_term.specs.CellTaints.{output_width}
 use Rattle.cif_cells.specs.NetlistView.{AreFitted}
 use Rattle.cif_cells.proofs.FittedCells.{fitted_at}
@@ -120,6 +120,9 @@ other_role k r e = absurd (let q : role_of Mem ≡ Combinational = ap role_of (s
 
 pub narrow_found : (n : Netlist) (c : ℕ) (x : Cell) → IsFitted x → x ≡ cell_at n c → role_at n c ≡ Combinational → AreNarrow x.operands
 narrow_found n c x f e r = narrow_operands x f (other_role x.kind (ap (λ (z : Cell). role_of z.kind) e ∙ r))
+
+pub narrow_of : (x : Cell) → IsFitted x → x.kind ≡ Dff → AreNarrow x.operands
+narrow_of x f e = narrow_operands x f (λ q. absurd (let z : Dff ≡ Mem = sym e ∙ q in cc))
 
 pub values_wide : (u : ℕ → Bool) (x : Cell) (given vs : List Word) → given ≡ vs → vs ≡ operand_words u x → map length given ≡ operand_widths x
 values_wide u x given vs q h = ap (λ (ws : List Word). map length ws) (q ∙ h) ∙ words_wide u x.operands

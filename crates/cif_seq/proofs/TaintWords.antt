@@ -2,7 +2,7 @@
 use Rattle.std.specs.Prelude.{ℕ, zero, suc, ◌+◌, ◌<◌, ◌≤◌, ◌≡◌, ◌≢◌, Bool, true, false, List, [], ◌∷◌, ◌++◌, length, map, get_or, take, Some, refl}
 use Rattle.std.specs.List.{range_with_len}
 use Rattle.std.proofs.Common.{arith, ap, sym, ◌∙◌, inl, inr}
-use Rattle.std.proofs.lemmas.List.{ext_get_or, get_or-map, get_or_past, length-map, map_push, take_all, take_more}
+use Rattle.std.proofs.lemmas.List.{ext_get_or, get_or-map, get_or_default, get_or_past, length-map, map_push, take_all, take_more}
 use Rattle.std.proofs.lemmas.List.FromFn.{get_or-map-range_with_len, length-map-range_with_len}
 use Rattle.cif_defs.specs.Words.{Word, bit, operand, word}
 use Rattle.cif_defs.specs.Kinds.{role_of}
@@ -11,7 +11,7 @@ use Rattle.cif_defs.specs.Cells.{Cell, meaning}
 use Rattle.cif_defs.specs.Taint.{output_taint}
 use Rattle.cif_defs.specs.Fitted.{AllWithin, IsFitted, IsWithin, operand_widths, row_width}
 use Rattle.cif_defs.specs.Run.{src_word, words_under}
-use Rattle.cif_defs.specs.TaintRun.{taints_under}
+use Rattle.cif_defs.specs.TaintRun.{taint_word as taint_bits}
 use Rattle.cif_defs.specs.declared.kinds.Kind.{Kind}
 use Rattle.cif_defs.specs.declared.kinds.Kind.TheVariants.{Not, Pos, And, Or, Xor, Xnor, ReduceAnd, ReduceOr, ReduceXor, ReduceXnor, ReduceBool, LogicNot, LogicAnd, LogicOr, Concat, Slice, Fa, Mux, Dff, ScopeInfo, Mem}
 use Rattle.cif_defs.specs.declared.kinds.PortRow.{PortRow}
@@ -75,17 +75,23 @@ formed_at c terms i d t vs a l e h =
     let one = a.each i (omega arith) in
     (output_width c i, ap (λ ws. width_of (formula_of t) ws []) h ∙ ap (λ (f : Formula). width_of f (operand_widths c) []) (ap formula_of e ∙ sym (formula_at terms i d l)) ∙ one.formed)
 
-pub words_are : (c : Cell) (terms : List Term) (n : ℕ) (d : Term) (vs ts ws : List Word) → AreTaintsOf c (map formula_of terms) → map length vs ≡ operand_widths c → map length ts ≡ operand_widths c → length terms ≤ n → ws ≡ values_of (take n terms) vs ts → ws ≡ taint_words c vs ts
-words_are c terms n d vs ts ws a hv ht l e =
-    let long : length (map formula_of terms) ≡ length terms = length-map terms formula_of in
-    let whole : ws ≡ values_of terms vs ts = e ∙ ap (λ (x : List Term). values_of x vs ts) (take_all n terms l) in
-    let count : ℕ = length (outputs_of c.kind) in
-    let many : length terms ≡ length (outputs_of c.kind) = sym long ∙ a.as_many in
-    whole ∙ ext_get_or [] (values_of terms vs ts) (taint_words c vs ts) (length-map terms (λ t. value_of (formula_of t) vs ts []) ∙ many ∙ sym (length-map-range_with_len (taint_word c vs ts) 0 (length (outputs_of c.kind))))
-    (λ p h. let inside : p < length terms = (let q : length (values_of terms vs ts) ≡ length terms = length-map terms (λ t. value_of (formula_of t) vs ts []) in omega arith) in
-      let one = a.each p (omega arith) in
-      get_or-map (λ t. value_of (formula_of t) vs ts []) terms p d [] inside ∙ ap (λ (f : Formula). value_of f vs ts []) (sym (formula_at terms p d inside)) ∙ one.means vs ts hv ht
+abbrev formula_words : List Formula → List Word → List Word → List Word
+formula_words fs vs ts = map (λ f. value_of f vs ts []) fs
+
+by_formulas : (terms : List Term) (vs ts : List Word) → values_of terms vs ts ≡ formula_words (map formula_of terms) vs ts
+by_formulas [] vs ts = refl
+by_formulas (t ∷ terms) vs ts = ap (λ (ws : List Word). value_of (formula_of t) vs ts [] ∷ ws) (by_formulas terms vs ts)
+
+formulas_are : (c : Cell) (fs : List Formula) (vs ts : List Word) → AreTaintsOf c fs → map length vs ≡ operand_widths c → map length ts ≡ operand_widths c → formula_words fs vs ts ≡ taint_words c vs ts
+formulas_are c fs vs ts a hv ht =
+    ext_get_or [] (formula_words fs vs ts) (taint_words c vs ts) (length-map fs (λ f. value_of f vs ts []) ∙ a.as_many ∙ sym (length-map-range_with_len (taint_word c vs ts) 0 (length (outputs_of c.kind))))
+    (λ p h. let inside : p < length fs = (let q : length (formula_words fs vs ts) ≡ length fs = length-map fs (λ f. value_of f vs ts []) in omega arith) in
+      let one = a.each p inside in let many : length fs ≡ length (outputs_of c.kind) = a.as_many in
+      get_or-map (λ f. value_of f vs ts []) fs p (Const []) [] inside ∙ one.means vs ts hv ht
       ∙ sym (get_or-map-range_with_len (taint_word c vs ts) 0 (length (outputs_of c.kind)) p p [] (omega arith) (omega arith)))
+
+pub words_are : (c : Cell) (terms : List Term) (n : ℕ) (vs ts ws : List Word) → AreTaintsOf c (map formula_of terms) → map length vs ≡ operand_widths c → map length ts ≡ operand_widths c → length terms ≤ n → ws ≡ values_of (take n terms) vs ts → ws ≡ taint_words c vs ts
+words_are c terms n vs ts ws a hv ht l e = e ∙ ap (λ (x : List Term). values_of x vs ts) (take_all n terms l) ∙ by_formulas terms vs ts ∙ formulas_are c (map formula_of terms) vs ts a hv ht
 
 -- ---- what a cell gives
 
@@ -131,8 +137,22 @@ pub narrow_at : (ops : List (List Src)) (p : ℕ) → AreNarrow ops → length (
 unfolding AreNarrow
 narrow_at ops p h = h p
 
-pub narrow_word : (v : ℕ → Bool) (ops : List (List Src)) (p : ℕ) (ss : List Src) (w : Word) → AreNarrow ops → ss ≡ get_or ops p [] → w ≡ src_word v ss → length w ≤ 65536
-narrow_word v ops p ss w h e f =
-    let a : length w ≡ length ss = ap length f ∙ length-source v ss in
-    let b : length ss ≡ length (get_or ops p []) = ap length e in
-    let l : length (get_or ops p []) ≤ 65536 = narrow_at ops p h in omega arith
+length-taint : (v : ℕ → Bool) (ss : List Src) → length (taint_bits v ss) ≡ length ss
+length-taint v [] = refl
+length-taint v (s ∷ ss) = ap suc (length-taint v ss)
+
+narrow_source : (ops : List (List Src)) (p : ℕ) (ss us : List Src) → AreNarrow ops → p < length ops → ss ≡ get_or ops p ss → us ≡ ss → length us ≤ 65536
+narrow_source ops p ss us h l e f =
+    let same : ss ≡ get_or ops p [] = e ∙ get_or_default ops p ss [] l in
+    let a : length us ≡ length (get_or ops p []) = ap length (f ∙ same) in
+    let b : length (get_or ops p []) ≤ 65536 = narrow_at ops p h in omega arith
+
+pub narrow_word : (v : ℕ → Bool) (ops : List (List Src)) (p : ℕ) (ss us : List Src) (w : Word) → AreNarrow ops → p < length ops → ss ≡ get_or ops p ss → us ≡ ss → w ≡ src_word v us → length w ≤ 65536
+narrow_word v ops p ss us w h l e f g =
+    let a : length w ≡ length us = ap length g ∙ length-source v us in
+    let b : length us ≤ 65536 = narrow_source ops p ss us h l e f in omega arith
+
+pub narrow_taint : (v : ℕ → Bool) (ops : List (List Src)) (p : ℕ) (ss us : List Src) (w : Word) → AreNarrow ops → p < length ops → ss ≡ get_or ops p ss → us ≡ ss → w ≡ taint_bits v us → length w ≤ 65536
+narrow_taint v ops p ss us w h l e f g =
+    let a : length w ≡ length us = ap length g ∙ length-taint v us in
+    let b : length us ≤ 65536 = narrow_source ops p ss us h l e f in omega arith

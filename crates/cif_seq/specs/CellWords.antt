@@ -12,9 +12,9 @@ use Rattle.cif_term.specs.CellTaints.{output_width, taint_word}
 abbrev pub taint_words : Cell → List Word → List Word → List Word
 taint_words c vs ts = map (taint_word c vs ts) (range_with_len 0 (length (outputs_of c.kind)))
 
-pub record GivesExactly (c : Cell) (vs ts words taints : List Word) : Type 0 where
+pub record GivesExactly (c : Cell) (vs ts words given : List Word) : Type 0 where
   pub values : words ≡ meaning c vs
-  pub taints : (p i : ℕ) → i < output_width c p → bit (operand taints p) i ≡ output_taint c p i vs ts
+  pub taints : (p i : ℕ) → i < output_width c p → bit (operand given p) i ≡ output_taint c p i vs ts
 
 -- a cell of a built kind, with all its operands
 pub record IsBuiltCell (c : Cell) : Type 0 where

@@ -2,5 +2,5 @@
 use Rattle.cif_seq.proofs.TaintWords.{covered}
 use Rattle.cif_seq.proofs.cell.taint_terms.Goals as goal
 
-pub taint_terms-requires-clause-covered-2 : goal.taint_terms-requires-clause-covered-2
-taint_terms-requires-clause-covered-2 c = ?
+pub taint_terms-requires-else-covers-clause-covered : goal.taint_terms-requires-else-covers-clause-covered
+taint_terms-requires-else-covers-clause-covered c = covered c.args.cell.now.kind c.kind.result c.covers.result c.requires.built c.requires.role c.covers.ensures c.kind.ensures c.if-covers.false

@@ -1,12 +1,13 @@
+-- One more word at each turn; no operand is too wide for one.
 use Rattle.std.proofs.Common.{◌∙◌, ap}
 use Rattle.cif_defs.specs.Words.{bit}
 use Rattle.cif_defs.specs.TaintRun.{taint_word}
 use Rattle.cif_seq.proofs.Gathered.{taints_push}
-use Rattle.cif_seq.proofs.TaintWords.{narrow_word}
+use Rattle.cif_seq.proofs.TaintWords.{narrow_taint}
 use Rattle.cif_seq.proofs.gather.taint_words_of.Goals as goal
 
 pub of-requires : goal.of-requires
-of-requires c = ?
+of-requires c = narrow_taint (bit c.args.taints.now) c.args.operands.now c.loop-sources.sources-index c.sources-item.result c.items.result.now _ c.requires c.loop-sources-test.true c.sources-item.is c.items.ensures c.in_ok-bits.ensures
 
 pub loop-sources-preserved : goal.loop-sources-preserved
 loop-sources-preserved c =
