@@ -1,7 +1,7 @@
 -- The clock that is read is that of the first cell with a clock.
-use Rattle.std.specs.Prelude.{ℕ, ◌+◌, ◌<◌, ◌≤◌, ◌≡◌, nat_lt, ◌==◌, Bool, true, false, not, ◌&&◌, List, [], ◌∷◌, ◌++◌, length, map, filter, Option, Some, None, option_map, refl}
+use Rattle.std.specs.Prelude.{ℕ, ◌≡◌, nat_lt, ◌==◌, Bool, true, false, not, ◌&&◌, List, [], ◌∷◌, ◌++◌, length, map, filter, Option, Some, None, option_map, refl}
 use Rattle.std.specs.List.{flat_map}
-use Rattle.std.proofs.Common.{arith, sym, ap, ◌∙◌, cond, inl, inr}
+use Rattle.std.proofs.Common.{arith, sym, ap, ◌∙◌, cond, inl}
 use Rattle.std.proofs.lemmas.Bool.{eqb-true, lt-ltb, not-false}
 use Rattle.std.proofs.lemmas.List.{append-nil}
 use Rattle.cif_defs.specs.Kinds.{role_of}
@@ -23,7 +23,6 @@ use Rattle.cif_defs.specs.declared.raw_module.Raw.{Raw}
 use Rattle.cif_cells.specs.Building.{clock_number, first_number}
 use Rattle.cif_cells.specs.Checks.{◌else_by◌, fault_if, first_fault, cell_fault, cells_fault, known_cell_fault, parameters_fault, memory_form, zero_width, too_wide, missing_port, wrong_width, constant_output, row_width, memory_bits_fault, clock_fault, clock_uses, clocks_fault, data_fault, is_clock_input, is_same_bit, uses_fault, ClockUse, IsAccepted}
 use Rattle.cif_cells.specs.ClockBit.{clock_among, clock_of, first_place, is_clocked, is_clocked_as, is_clocked_by}
-use Rattle.cif_cells.specs.declared.fault.BuildFault.{BuildFault}
 use Rattle.cif_cells.specs.declared.fault.BuildFault.TheVariants.{NoClockInput, TwoClocks, WidthMismatch}
 use Rattle.cif_cells.proofs.FewBits.{known_passes}
 use Rattle.cif_cells.proofs.Passed.{all_uses, each_passes, first_passes, next_passes, passed, test_passes}

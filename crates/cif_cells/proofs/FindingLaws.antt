@@ -1,14 +1,13 @@
 -- Wires kept by name, one name after another.
 use Rattle.std.specs.Prelude.{ℕ, ◌+◌, ◌<◌, ◌≡◌, Bool, true, false, not, ◌&&◌, List, [], ◌∷◌, ◌++◌, length, get_or, take, map, bytes_eq, Option, Some, None, option_map, is_some, refl}
 use Rattle.std.specs.BTreeMap as tree
-use Rattle.std.specs.BTreeMap.{BTreeMap, is_at}
+use Rattle.std.specs.BTreeMap.{is_at}
 use Rattle.std.specs.Cmp.Lexicographic.{slice_cmp}
 use Rattle.std.specs.Global.{Vec}
 use Rattle.std.specs.Map.{lookup, IsKeyTest, AreApart, KeepsOthers}
 use Rattle.std.specs.Option.{option_or}
 use Rattle.std.specs.Ordering.{is_eq, nat_cmp, eq_by_cmp}
-use Rattle.std.proofs.Common.{sym, ap, ◌∙◌, subst, cond, inl, inr}
-use Rattle.std.proofs.lemmas.Bool.{cases_Bool, cond-true, cond-false}
+use Rattle.std.proofs.Common.{sym, ap, ◌∙◌, subst, cond}
 use Rattle.std.proofs.lemmas.Cmp.{eq_by_cmp_equiv, nat_list_cmp_total, nat_list_eq_equiv}
 use Rattle.std.proofs.lemmas.List.{map-append, take_more}
 use Rattle.std.proofs.lemmas.Map.Text.{is_eq-slice_cmp}
@@ -22,7 +21,7 @@ use Rattle.cif_defs.specs.declared.raw_module.RawPort.{RawPort}
 use Rattle.cif_defs.specs.declared.raw_module.Raw.{Raw}
 use Rattle.cif_cells.specs.Building.{clock_number, is_number}
 use Rattle.cif_cells.specs.Drives.{driven_by}
-use Rattle.cif_cells.specs.Finding.{Named, all_named, bits_under, found_as, found_of, is_two_valued, name_named, port_named, wire_if}
+use Rattle.cif_cells.specs.Finding.{Named, bits_under, found_as, found_of, is_two_valued, name_named, port_named, wire_if}
 use Rattle.cif_cells.specs.Nets.{is_driven}
 use Rattle.cif_cells.specs.declared.drives.DrivenBy.{DrivenBy}
 use Rattle.cif_cells.specs.Wires.{AddsWires, HoldsWires, Wires, wire_among, wire_at}
@@ -145,7 +144,7 @@ pub one_more : {A : Type 0} (f : A → Named) (raw : Raw) (a b c : Wires) (xs : 
 one_more f raw a b c xs i x d name bits l is named h k =
     let P : List Named → Type 0 = λ es. AddsWires raw a c es in
     let same : map f (take i xs) ++ (name, bits) ∷ [] ≡ map f (take (i + 1) xs) =
-        sym (ap (map f) (take_more xs i d l) ∙ map-append f (take i xs) (get_or xs i d ∷ []) ∙ ap (λ (e : Named). map f (take i xs) ++ e ∷ []) (sym (ap f is) ∙ named)) in
+    sym (ap (map f) (take_more xs i d l) ∙ map-append f (take i xs) (get_or xs i d ∷ []) ∙ ap (λ (e : Named). map f (take i xs) ++ e ∷ []) (sym (ap f is) ∙ named)) in
     subst P same (adds_more raw a b c (map f (take i xs)) ((name, bits) ∷ []) h k)
 
 pub found_is : (raw seen : Raw) (wires : Wires) (name : List ℕ) → raw ≡ seen → HoldsWires raw wires → found_as (wire_at wires name) ≡ found_of seen name

@@ -1,5 +1,5 @@
 -- What stands under a name: netnames come first, then ports.
-use Rattle.std.specs.Prelude.{ℕ, ◌≡◌, nat_lt, Bool, true, false, not, ◌&&◌, List, ◌++◌, length, map, bytes_eq, Option, Some, None, option_map, is_some, if◌then◌else◌}
+use Rattle.std.specs.Prelude.{ℕ, nat_lt, Bool, true, false, not, ◌&&◌, List, ◌++◌, length, map, bytes_eq, Option, Some, None, option_map, is_some, if◌then◌else◌}
 use Rattle.std.specs.List.{list_all}
 use Rattle.std.specs.Map.{lookup}
 use Rattle.cif_defs.specs.RawModule.{net_numbers}

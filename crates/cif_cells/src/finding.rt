@@ -142,7 +142,14 @@ fn add_names(
     ensures { OnOk result (AddsWires nets.now wires.old wires.new (map name_named names.now)) }
 {
     for name in names {
-        add_wire(alloc, nets, clock, wires, name.name.items(), name.bits.items())?;
+        add_wire(
+            alloc,
+            nets,
+            clock,
+            wires,
+            name.name.items(),
+            name.bits.items(),
+        )?;
     }
     Ok(())
 }
@@ -159,7 +166,14 @@ fn add_ports(
     ensures { OnOk result (AddsWires nets.now wires.old wires.new (map port_named ports.now)) }
 {
     for port in ports {
-        add_wire(alloc, nets, clock, wires, port.name.items(), port.bits.items())?;
+        add_wire(
+            alloc,
+            nets,
+            clock,
+            wires,
+            port.name.items(),
+            port.bits.items(),
+        )?;
     }
     Ok(())
 }

@@ -21,6 +21,8 @@ mod raw_access;
 mod reads;
 mod state;
 pub mod table;
+#[cfg(test)]
+mod tests;
 
 pub use cell::{Cell, Digits, Given, Sources, Targets};
 pub use cif_defs::{
