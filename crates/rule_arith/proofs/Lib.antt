@@ -11,3 +11,5 @@ pub mod OrderLimits
 pub mod Pairs
 pub mod Comparisons
 pub mod OrderTaints
+pub mod OwnTaints
+pub mod AluRules
