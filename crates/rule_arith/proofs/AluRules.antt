@@ -256,7 +256,7 @@ carry_is n signed c inv u w i l =
 abbrev pub full_bound : ℕ → Bool → Bool → Word → Word → Bool → Word
 full_bound n signed inv v t upper = word n (λ i. at_bound (is_upper n upper upper i) (xor (extended_bit signed i v) inv) (extended_bit signed i t))
 
-same_side : (k i : ℕ) (upper : Bool) → is_upper k upper upper i ≡ upper
+pub same_side : (k i : ℕ) (upper : Bool) → is_upper k upper upper i ≡ upper
 same_side k i upper = by_test (nat_lt i k)
   where
   by_test : (b : Bool) → (if b then upper else upper) ≡ upper

@@ -13,3 +13,5 @@ pub mod Comparisons
 pub mod OrderTaints
 pub mod OwnTaints
 pub mod AluRules
+pub mod AluValues
+pub mod AluTaints

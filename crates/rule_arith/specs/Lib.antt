@@ -3,3 +3,4 @@ pub mod Cases
 pub mod Addends
 pub mod SumFormulas
 pub mod OrderFormulas
+pub mod AluFormulas
