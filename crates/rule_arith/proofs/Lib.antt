@@ -15,3 +15,5 @@ pub mod OwnTaints
 pub mod AluRules
 pub mod AluValues
 pub mod AluTaints
+pub mod EqualRules
+pub mod EqualTaints

@@ -4,3 +4,4 @@ pub mod Addends
 pub mod SumFormulas
 pub mod OrderFormulas
 pub mod AluFormulas
+pub mod EqualFormulas
