@@ -34,15 +34,15 @@ use Rattle.rule_arith.proofs.SumTaints.{forms_taint, forms_value}
 
 -- ---- cells
 
-record IsAlu (c : Cell) : Type 0 where
-  widths : operand_widths c ≡ number_of c AWidth ∷ number_of c BWidth ∷ 1 ∷ 1 ∷ []
-  some_a : 1 ≤ number_of c AWidth
-  some_b : 1 ≤ number_of c BWidth
-  some_y : 1 ≤ number_of c YWidth
-  few_a : number_of c AWidth ≤ 128
-  few_b : number_of c BWidth ≤ 128
-  few_y : number_of c YWidth ≤ 128
-  three : outputs_of c.kind ≡ row X (Of YWidth) ∷ row Y (Of YWidth) ∷ row Co (Of YWidth) ∷ []
+pub record IsAlu (c : Cell) : Type 0 where
+  pub widths : operand_widths c ≡ number_of c AWidth ∷ number_of c BWidth ∷ 1 ∷ 1 ∷ []
+  pub some_a : 1 ≤ number_of c AWidth
+  pub some_b : 1 ≤ number_of c BWidth
+  pub some_y : 1 ≤ number_of c YWidth
+  pub few_a : number_of c AWidth ≤ 128
+  pub few_b : number_of c BWidth ≤ 128
+  pub few_y : number_of c YWidth ≤ 128
+  pub three : outputs_of c.kind ≡ row X (Of YWidth) ∷ row Y (Of YWidth) ∷ row Co (Of YWidth) ∷ []
 
 alu_operands : operands_of Alu ≡ a_row ∷ b_row ∷ row Ci OneBit ∷ row Bi OneBit ∷ []
 unfolding operands_of
@@ -64,7 +64,7 @@ alu_limit_x : width_limit Alu X ≡ 128
 unfolding width_limit
 alu_limit_x = refl
 
-alu_cell : (c : Cell) → IsFitted c → c.kind ≡ Alu → IsAlu c
+pub alu_cell : (c : Cell) → IsFitted c → c.kind ≡ Alu → IsAlu c
 alu_cell c h e =
     let rows : operands_of c.kind ≡ a_row ∷ b_row ∷ row Ci OneBit ∷ row Bi OneBit ∷ [] = ap operands_of e ∙ alu_operands in
     let out_rows : outputs_of c.kind ≡ row X (Of YWidth) ∷ row Y (Of YWidth) ∷ row Co (Of YWidth) ∷ [] = ap outputs_of e ∙ alu_outputs in

@@ -146,7 +146,7 @@ ne_row_exact n signed a ta b tb some e f some_a some_b = ne_exact n (max (length
 
 -- ---- the kinds
 
-eq_cell : (c : Cell) → IsFitted c → c.kind ≡ Eq → IsBinary c 4096
+pub eq_cell : (c : Cell) → IsFitted c → c.kind ≡ Eq → IsBinary c 4096
 unfolding operands_of outputs_of width_limit
 eq_cell c h e = binary_cell c Eq 4096 h e (λ q. absurd (cc)) refl refl refl refl refl
 
@@ -166,7 +166,7 @@ eq_taints c h e =
     one_output c (of_pair equal_taint c) (ap length b.one_output)
     (pair_taint c 4096 37 eq_word equal_taint b (ap is_coarse e) (λ us. ap (λ k. words_by k c us) e ∙ eq_words c us) eq_row_exact formed) (let k = formed.cost in omega arith)
 
-ne_cell : (c : Cell) → IsFitted c → c.kind ≡ Ne → IsBinary c 4096
+pub ne_cell : (c : Cell) → IsFitted c → c.kind ≡ Ne → IsBinary c 4096
 unfolding operands_of outputs_of width_limit
 ne_cell c h e = binary_cell c Ne 4096 h e (λ q. absurd (cc)) refl refl refl refl refl
 
@@ -186,7 +186,7 @@ ne_taints c h e =
     one_output c (of_pair equal_taint c) (ap length b.one_output)
     (pair_taint c 4096 37 ne_word equal_taint b (ap is_coarse e) (λ us. ap (λ k. words_by k c us) e ∙ ne_words c us) ne_row_exact formed) (let k = formed.cost in omega arith)
 
-eqx_cell : (c : Cell) → IsFitted c → c.kind ≡ Eqx → IsBinary c 4096
+pub eqx_cell : (c : Cell) → IsFitted c → c.kind ≡ Eqx → IsBinary c 4096
 unfolding operands_of outputs_of width_limit
 eqx_cell c h e = binary_cell c Eqx 4096 h e (λ q. absurd (cc)) refl refl refl refl refl
 
@@ -206,7 +206,7 @@ eqx_taints c h e =
     one_output c (of_pair equal_taint c) (ap length b.one_output)
     (pair_taint c 4096 37 eq_word equal_taint b (ap is_coarse e) (λ us. ap (λ k. words_by k c us) e ∙ eqx_words c us) eq_row_exact formed) (let k = formed.cost in omega arith)
 
-nex_cell : (c : Cell) → IsFitted c → c.kind ≡ Nex → IsBinary c 4096
+pub nex_cell : (c : Cell) → IsFitted c → c.kind ≡ Nex → IsBinary c 4096
 unfolding operands_of outputs_of width_limit
 nex_cell c h e = binary_cell c Nex 4096 h e (λ q. absurd (cc)) refl refl refl refl refl
 

@@ -17,3 +17,4 @@ pub mod AluValues
 pub mod AluTaints
 pub mod EqualRules
 pub mod EqualTaints
+pub mod ArithTaints

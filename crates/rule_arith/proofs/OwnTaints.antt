@@ -99,7 +99,7 @@ neg_formed c b =
     (λ named. formed_extended n 1 false (formed_const (true ∷ []) ws named 1 refl (omega arith) (omega arith)) (omega arith) some (omega arith))
     (λ named. formed_const (zeros n) ws named n (length-word n (λ i. false)) some (omega arith)) []
 
-neg_cell : (c : Cell) → IsFitted c → c.kind ≡ Neg → IsUnary c 128
+pub neg_cell : (c : Cell) → IsFitted c → c.kind ≡ Neg → IsUnary c 128
 unfolding operands_of outputs_of width_limit
 neg_cell c h e = unary_cell c Neg 128 h e (λ q. absurd (cc)) refl refl refl refl
 

@@ -5,3 +5,4 @@ pub mod SumFormulas
 pub mod OrderFormulas
 pub mod AluFormulas
 pub mod EqualFormulas
+pub mod ArithFormulas
