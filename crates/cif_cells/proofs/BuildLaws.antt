@@ -17,9 +17,11 @@ use Rattle.cif_defs.specs.declared.raw_module.RawCell.{RawCell}
 use Rattle.cif_defs.specs.declared.raw_module.Raw.{Raw}
 use Rattle.cif_cells.specs.Checks.{◌else_by◌, fault_if, first_fault, counts_fault, ports_fault, cells_fault, drivers_fault, driven_numbers, is_twice, clocks_fault, reads_fault, inits_fault, build_fault, ClockUse, IsAccepted, IsFirst}
 use Rattle.cif_cells.specs.Building.{clock_number, driver_read, driver_with, first_number, is_number, later_faults, net_number}
+use Rattle.cif_cells.specs.ClockBit.{clock_of}
 use Rattle.cif_cells.specs.Clocks.{first_edge, uses_of}
 use Rattle.cif_cells.specs.Drives.{driven_by}
 use Rattle.cif_cells.specs.NetlistView.{Holds}
+use Rattle.cif_cells.specs.Wires.{HoldsWires, Wires}
 use Rattle.cif_cells.specs.Nets.{driver_or_clock, first_faults, is_several}
 use Rattle.cif_cells.specs.declared.clock.ClockEdge.{ClockEdge}
 use Rattle.cif_cells.specs.declared.fault.BuildFault.{BuildFault}
@@ -50,7 +52,7 @@ abbrev is_first : ℕ → List RawBit → Bool
 is_first x (Net y ∷ bs) = y == x
 is_first x _ = false
 
-first_is_number : (x : ℕ) (bs : List RawBit) → is_number (first_number bs) x ≡ is_first x bs
+pub first_is_number : (x : ℕ) (bs : List RawBit) → is_number (first_number bs) x ≡ is_first x bs
 first_is_number x [] = refl
 first_is_number x (Net y ∷ bs) = refl
 first_is_number x (Zero ∷ bs) = refl
@@ -101,15 +103,15 @@ no_fault nets a b c h = all_faults nets ∙ both_pass (first_faults nets) (later
 
 -- ---- what is put together
 
-pub holds : (nets raw seen : Raw) (ns : List ℕ) (in_ports out_ports : List RawPort) (raw_cells : List RawCell) (inputs outputs : List Wire) (cells : List Cell) (drivers : List Driver) (initial : List Word)
+pub holds : (nets raw seen : Raw) (ns : List ℕ) (in_ports out_ports : List RawPort) (raw_cells : List RawCell) (inputs outputs : List Wire) (cells : List Cell) (drivers : List Driver) (initial : List Word) (clock : Option ℕ) (wires : Wires)
     → raw ≡ nets → seen ≡ nets → IsAccepted nets → length nets.cells ≤ 400000 → length (net_numbers nets) ≤ 4194304
     → ns ≡ net_numbers nets → in_ports ≡ seen.ports → out_ports ≡ seen.ports → raw_cells ≡ seen.cells
     → inputs ≡ map (wire_of ns) (filter is_input in_ports) → outputs ≡ map (wire_of ns) (filter is_output out_ports) → cells ≡ map (cell_of ns) raw_cells
-    → drivers ≡ (netlist_of nets).drivers → initial ≡ map (initial_of ns seen.names) seen.cells
-    → Holds raw inputs outputs cells drivers initial
+    → drivers ≡ (netlist_of nets).drivers → initial ≡ map (initial_of ns seen.names) seen.cells → clock ≡ clock_of nets → HoldsWires nets wires
+    → Holds raw inputs outputs cells drivers initial clock wires
 unfolding netlist_of
-holds nets raw seen ns in_ports out_ports raw_cells inputs outputs cells drivers initial same at accepted few bits qn qi qo qc hi ho hc hd hs =
-    let P : Raw → Type 0 = λ r. Holds r inputs outputs cells drivers initial in
+holds nets raw seen ns in_ports out_ports raw_cells inputs outputs cells drivers initial clock wires same at accepted few bits qn qi qo qc hi ho hc hd hs hk hw =
+    let P : Raw → Type 0 = λ r. Holds r inputs outputs cells drivers initial clock wires in
     subst P (sym same) (record {
       accepted = accepted;
       wired = wired nets accepted;
@@ -120,4 +122,6 @@ holds nets raw seen ns in_ports out_ports raw_cells inputs outputs cells drivers
       same_cells = hc ∙ ap (λ (m : List ℕ). map (cell_of m) raw_cells) qn ∙ ap (λ (cs : List RawCell). map (cell_of (net_numbers nets)) cs) (qc ∙ ap (λ (r : Raw). r.cells) at);
       same_drivers = hd;
       same_initial = hs ∙ ap (λ (m : List ℕ). map (initial_of m seen.names) seen.cells) qn ∙ ap (λ (r : Raw). map (initial_of (net_numbers nets) r.names) r.cells) at;
+      same_clock = hk;
+      same_wires = hw;
     })

@@ -76,7 +76,7 @@ lut_small : (p : CellPort) → lut_limit p ≤ 65536
 lut_small A = lit≤ tt
 lut_small p = lit≤ tt
 
-limit_small : (k : Kind) (p : CellPort) → width_limit k p ≤ 65536
+pub limit_small : (k : Kind) (p : CellPort) → width_limit k p ≤ 65536
 unfolding width_limit
 limit_small Shl p = shift_small p
 limit_small Sshl p = shift_small p
@@ -97,7 +97,7 @@ or_false false b h = (refl, h)
 
 -- ---- the outputs of a cell that passes the checks of widths are narrow
 
-outputs_part : (f : PortRow → Option BuildFault) (k : Kind) → first_fault f (ports_of k) ≡ None → first_fault f (outputs_of k) ≡ None
+pub outputs_part : (f : PortRow → Option BuildFault) (k : Kind) → first_fault f (ports_of k) ≡ None → first_fault f (outputs_of k) ≡ None
 unfolding ports_of
 outputs_part f Mem h =
     (else_none (first_fault f (operands_of Mem)) (first_fault f (outputs_of Mem))

@@ -77,7 +77,7 @@ few_in_known cell k r h has =
     (each_passes (too_wide cell k) (ports_of k) r (next_passes zeros (first_fault (too_wide cell k) (ports_of k)) three) has)
     (each_passes (wrong_width cell) (ports_of k) r (next_passes missing (first_fault (wrong_width cell) (ports_of k)) five) has)
 
-built_passes : (cell : RawCell) (k : Kind) (b : Bool) → (if b then known_cell_fault cell k else Some (UnsupportedCell cell.name cell.kind)) ≡ None → known_cell_fault cell k ≡ None
+pub built_passes : (cell : RawCell) (k : Kind) (b : Bool) → (if b then known_cell_fault cell k else Some (UnsupportedCell cell.name cell.kind)) ≡ None → known_cell_fault cell k ≡ None
 built_passes cell k true h = h
 built_passes cell k false h = absurd (cc)
 

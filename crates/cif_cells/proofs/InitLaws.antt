@@ -317,13 +317,13 @@ output_starts raw ns inits cell i e f one =
 
 -- ---- numbers that a cell of a kind is asked for
 
-abbrev is_plain : Param → Bool
+abbrev pub is_plain : Param → Bool
 is_plain p = not (is_table p) && not (is_mask p)
 
 abbrev given_as : RawCell → Param → Option (Param × ℕ)
 given_as cell p = option_map (λ (x : ℕ). (p, x)) (number_given cell p)
 
-abbrev is_among : Param → List Param → Bool
+abbrev pub is_among : Param → List Param → Bool
 is_among p ps = list_any (λ q. is_same_param q p) ps
 
 same_param : (p q : Param) → is_same_param p q ≡ true → p ≡ q
@@ -359,7 +359,7 @@ number_by_first cell p q ps true e plain rest =
 number_by_first cell p q ps false e plain rest =
     other_passed cell p q ps (is_plain q) e ∙ rest ∙ sym (ap (λ (b : Bool). if b || is_among p ps then number_or_0 cell p else 0) e)
 
-number_is : (cell : RawCell) (p : Param) (ps : List Param) → is_plain p ≡ true → number_in (numbers_of cell ps) p ≡ (if is_among p ps then number_or_0 cell p else 0)
+pub number_is : (cell : RawCell) (p : Param) (ps : List Param) → is_plain p ≡ true → number_in (numbers_of cell ps) p ≡ (if is_among p ps then number_or_0 cell p else 0)
 number_is cell p [] plain = refl
 number_is cell p (q ∷ ps) plain = number_by_first cell p q ps (is_same_param q p) refl plain (number_is cell p ps plain)
 

@@ -12,3 +12,9 @@ pub mod Clocks
 pub mod Reads
 pub mod CellReads
 pub mod Building
+pub mod CellPorts
+pub mod NumberKinds
+pub mod RegisterKinds
+pub mod ClockBit
+pub mod Finding
+pub mod Wires

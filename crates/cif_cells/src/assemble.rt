@@ -21,7 +21,7 @@ use cif_defs::{
 use std::alloc::{AllocError, Global};
 
 /// The net bit of a net number: its place among the net numbers of the module, or 0 where it isn't one of them.
-fn net_bit(numbers: &[u64], number: u64) -> NetBit
+pub fn net_bit(numbers: &[u64], number: u64) -> NetBit
     requires rising { IsStrictlyIncreasing numbers.now }
     requires few { length numbers.now < 2 ^ 32 }
     ensures { result ≡ place_of_number numbers.now number }
@@ -58,7 +58,7 @@ fn target(numbers: &[u64], bit: RawBit) -> Option<NetBit>
 }
 
 /// What some bits read.
-fn sources(alloc: Global, numbers: &[u64], bits: &[RawBit]) -> Result<Vec<Src>, AllocError>
+pub fn sources(alloc: Global, numbers: &[u64], bits: &[RawBit]) -> Result<Vec<Src>, AllocError>
     requires rising { IsStrictlyIncreasing numbers.now }
     requires few { length numbers.now < 2 ^ 32 }
     ensures { IfOk result (λ v. v.items ≡ map (source_of numbers.now) bits.now) }

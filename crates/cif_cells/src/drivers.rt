@@ -2,13 +2,15 @@
 ghost use Rattle.std.specs.Prelude.{◌≡◌, map, Some, None, IfOk};
 ghost use Rattle.cif_defs.specs.RawModule.{net_numbers};
 ghost use Rattle.cif_defs.specs.Accepted.{netlist_of};
-ghost use Rattle.cif_cells.specs.Checks.{drivers_fault};
+ghost use Rattle.cif_cells.specs.Checks.{drivers_fault, IsAccepted};
+ghost use Rattle.cif_cells.specs.ClockBit.{clock_of};
 ghost use Rattle.cif_cells.specs.Building.{clock_number as clock_number_of, driver_read, driver_with, net_number as net_number_of};
 
+use crate::assemble::net_bit;
 use crate::clock::first_clock;
 use crate::drives::DrivenBy;
 use crate::nets::Nets;
-use cif_defs::{Driver, Raw, RawBit};
+use cif_defs::{Driver, NetBit, Raw, RawBit};
 use std::alloc::{AllocError, Global};
 
 /// The number of a net; none of a constant.
@@ -22,7 +24,7 @@ fn net_number(bit: RawBit) -> Option<u64>
 }
 
 /// The net number of the clock; none where no cell has a clock.
-fn clock_number(raw: &Raw) -> Option<u64>
+pub fn clock_number(raw: &Raw) -> Option<u64>
     ensures { result ≡ clock_number_of raw.now }
 {
     match first_clock(raw.cells.items()) {
@@ -65,4 +67,15 @@ pub fn drivers_of(alloc: Global, nets: &Nets) -> Result<Vec<Driver>, AllocError>
     ensures { IfOk result (λ v. v.items ≡ (netlist_of nets.now).drivers) }
 {
     drivers_read(alloc, nets)
+}
+
+/// The net bit of the clock of an accepted module; none where no cell has a clock.
+pub fn clock_bit(nets: &Nets) -> Option<NetBit>
+    requires { IsAccepted nets.now }
+    ensures { result ≡ clock_of nets.now }
+{
+    match clock_number(nets.raw()) {
+        Some(number) => Some(net_bit(nets.numbers(), number)),
+        None => None,
+    }
 }

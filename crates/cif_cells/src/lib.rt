@@ -9,7 +9,9 @@ mod clock;
 mod drivers;
 mod drives;
 mod fault;
+mod finding;
 mod inits;
+mod meanings;
 mod netlist;
 mod nets;
 mod numbers;
@@ -27,4 +29,7 @@ pub use cif_defs::{
     RawNames, RawParam, RawPort, RawPorts, Role, Src, Wire,
 };
 pub use fault::{BuildFault, Spot};
+pub use meanings::meaning;
+pub use meanings::registers::{register_next, register_show};
+pub use finding::Found;
 pub use netlist::Netlist;

@@ -7,11 +7,16 @@ ghost use Rattle.cif_defs.specs.Accepted.{netlist_of};
 ghost use Rattle.cif_defs.specs.Netlist.{driver_of, IsWired};
 ghost use Rattle.cif_defs.specs.RawModule.{net_numbers};
 ghost use Rattle.cif_cells.specs.Checks.{IsAccepted};
+ghost use Rattle.cif_cells.specs.ClockBit.{clock_of};
+ghost use Rattle.cif_cells.specs.Finding.{found_of};
 ghost use Rattle.cif_cells.specs.Inits.{init_of};
+ghost use Rattle.cif_cells.specs.NetlistView.{AreFitted};
+ghost use Rattle.cif_cells.specs.Wires.{found_seen};
 
 use crate::assemble::{cells_of, inputs_of, outputs_of};
 use crate::cell::Cell;
-use crate::drivers::drivers_of;
+use crate::drivers::{clock_bit, drivers_of};
+use crate::finding::{Found, Wires, found_in, wires_of};
 use crate::inits::{InitBit, initial_words};
 use crate::nets::Nets;
 use crate::state::total_bits;
@@ -29,6 +34,8 @@ pub struct Netlist {
     cells: Vec<Cell>,
     drivers: Vec<Driver>,
     initial: Vec<Listed<bool>>,
+    clock: Option<NetBit>,
+    wires: Wires,
 }
 
 impl Model for Netlist {
@@ -40,7 +47,7 @@ impl Model for Netlist {
 
     ghost view = { λ n. n.raw };
 
-    ghost invariant = { λ n. Holds n.raw n.inputs.items n.outputs.items n.cells.items n.drivers.items n.initial.items };
+    ghost invariant = { λ n. Holds n.raw n.inputs.items n.outputs.items n.cells.items n.drivers.items n.initial.items n.clock n.wires };
 }
 
 impl Netlist {
@@ -61,6 +68,8 @@ impl Netlist {
         let cells = cells_of(alloc, numbers, raw.cells.items())?;
         let drivers = drivers_of(alloc, &nets)?;
         let initial = initial_words(alloc, raw, numbers, inits)?;
+        let clock = clock_bit(&nets);
+        let wires = wires_of(alloc, &nets)?;
         Ok(Netlist {
             raw: nets.into_raw(),
             inputs,
@@ -68,6 +77,8 @@ impl Netlist {
             cells,
             drivers,
             initial,
+            clock,
+            wires,
         })
     }
 
@@ -86,6 +97,7 @@ impl Netlist {
         ensures few { length result.now ≤ 400000 }
         ensures accepted { IsAccepted self.now }
         ensures wired { IsWired (netlist_of self.now) }
+        ensures fitted { AreFitted result.now }
     {
         &self.cells
     }
@@ -118,6 +130,20 @@ impl Netlist {
         ensures { result ≡ driver_of (netlist_of self.now) bit }
     {
         self.drivers[bit as usize]
+    }
+
+    /// The clock: the net bit at the clock of each register and each write port; None where there are none.
+    pub fn clock(&self) -> Option<NetBit>
+        ensures { result ≡ clock_of self.now }
+    {
+        self.clock
+    }
+
+    /// What stands under a name: the netname of this name, or else the port of this name.
+    pub fn find(&self, name: &[u8]) -> Found<'_>
+        ensures { found_seen result ≡ found_of self.now name.now }
+    {
+        found_in(&self.wires, name)
     }
 
     /// Bit `index` of the word with which a cell starts; a bit past its end is 0.

@@ -95,7 +95,8 @@ impl Nets {
 
     /// The net numbers, rising; at most 4,194,304.
     pub fn numbers(&self) -> &[u64]
-        ensures { result.now ≡ net_numbers_of self.now }
+        ensures is { result.now ≡ net_numbers_of self.now }
+        ensures few { length result.now ≤ 4194304 }
     {
         &self.numbers
     }

@@ -822,6 +822,25 @@ pub fn is_built(kind: Kind) -> bool
 {
     matches!(
         kind,
-        Kind::Not | Kind::And | Kind::Mux | Kind::Dff | Kind::ScopeInfo
+        Kind::Not
+            | Kind::Pos
+            | Kind::And
+            | Kind::Or
+            | Kind::Xor
+            | Kind::Xnor
+            | Kind::ReduceAnd
+            | Kind::ReduceOr
+            | Kind::ReduceXor
+            | Kind::ReduceXnor
+            | Kind::ReduceBool
+            | Kind::LogicNot
+            | Kind::LogicAnd
+            | Kind::LogicOr
+            | Kind::Concat
+            | Kind::Slice
+            | Kind::Fa
+            | Kind::Mux
+            | Kind::Dff
+            | Kind::ScopeInfo
     )
 }

@@ -343,7 +343,22 @@ width_limit k p = if is_arithmetic k then number_limit else plain_limit
 -- the kinds whose cells can be evaluated so far; any other is refused as if the table lacked it
 abbrev pub is_built : Kind → Bool
 is_built Not = true
+is_built Pos = true
 is_built And = true
+is_built Or = true
+is_built Xor = true
+is_built Xnor = true
+is_built ReduceAnd = true
+is_built ReduceOr = true
+is_built ReduceXor = true
+is_built ReduceXnor = true
+is_built ReduceBool = true
+is_built LogicNot = true
+is_built LogicAnd = true
+is_built LogicOr = true
+is_built Concat = true
+is_built Slice = true
+is_built Fa = true
 is_built Mux = true
 is_built Dff = true
 is_built ScopeInfo = true

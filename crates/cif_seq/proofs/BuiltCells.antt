@@ -10,7 +10,7 @@ use Rattle.cif_defs.specs.Cells.{Cell}
 use Rattle.cif_defs.specs.Netlist.{cell_at, role_at, no_cell}
 use Rattle.cif_defs.specs.Loop.{is_passing}
 use Rattle.cif_defs.specs.declared.kinds.Kind.{Kind}
-use Rattle.cif_defs.specs.declared.kinds.Kind.TheVariants.{Not, And, Mux, Dff, ScopeInfo}
+use Rattle.cif_defs.specs.declared.kinds.Kind.TheVariants.{Not, Pos, And, Or, Xor, Xnor, ReduceAnd, ReduceOr, ReduceXor, ReduceXnor, ReduceBool, LogicNot, LogicAnd, LogicOr, Concat, Slice, Fa, Mux, Dff, ScopeInfo}
 use Rattle.cif_defs.specs.declared.kinds.Role.TheVariants.{Combinational}
 use Rattle.cif_defs.specs.declared.raw_module.RawCell.{RawCell}
 use Rattle.cif_defs.specs.declared.raw_module.Raw.{Raw}
@@ -53,7 +53,22 @@ length-netlist_cells raw = length-map raw.cells (cell_of (net_numbers raw))
 -- of the built kinds the passing ones are combinational
 passing_kind : (k : Kind) → is_built k ≡ true → is_passing (role_of k) ≡ true → role_of k ≡ Combinational
 passing_kind Not b p = refl
+passing_kind Pos b p = refl
 passing_kind And b p = refl
+passing_kind Or b p = refl
+passing_kind Xor b p = refl
+passing_kind Xnor b p = refl
+passing_kind ReduceAnd b p = refl
+passing_kind ReduceOr b p = refl
+passing_kind ReduceXor b p = refl
+passing_kind ReduceXnor b p = refl
+passing_kind ReduceBool b p = refl
+passing_kind LogicNot b p = refl
+passing_kind LogicAnd b p = refl
+passing_kind LogicOr b p = refl
+passing_kind Concat b p = refl
+passing_kind Slice b p = refl
+passing_kind Fa b p = refl
 passing_kind Mux b p = refl
 passing_kind Dff b p = absurd (cc)
 passing_kind ScopeInfo b p = absurd (cc)

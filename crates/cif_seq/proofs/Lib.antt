@@ -1,6 +1,7 @@
 pub mod Gathered
-pub mod RuleLaws
-pub mod CellWords
+pub mod CutLaws
+pub mod RegisterWords
+pub mod TaintWords
 pub mod WriteLaws
 pub mod BuiltCells
 pub mod Evaluated

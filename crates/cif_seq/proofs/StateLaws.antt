@@ -14,7 +14,7 @@ use Rattle.cif_defs.specs.Stimulus.{Stimulus, start_at}
 use Rattle.cif_defs.specs.Run.{stored_by, operand_words}
 use Rattle.cif_defs.specs.TaintRun.{taint_stored_by, operand_taints}
 use Rattle.cif_defs.specs.declared.kinds.Kind.{Kind}
-use Rattle.cif_defs.specs.declared.kinds.Kind.TheVariants.{Not, And, Mux, Dff, ScopeInfo}
+use Rattle.cif_defs.specs.declared.kinds.Kind.TheVariants.{Not, Pos, And, Or, Xor, Xnor, ReduceAnd, ReduceOr, ReduceXor, ReduceXnor, ReduceBool, LogicNot, LogicAnd, LogicOr, Concat, Slice, Fa, Mux, Dff, ScopeInfo}
 use Rattle.cif_defs.specs.declared.kinds.Role.{Role}
 use Rattle.cif_defs.specs.declared.kinds.Role.TheVariants.{Combinational, PlainRegister, ResetRegister, MemoryBlock, CarriedOver}
 use Rattle.cif_defs.proofs.WordLaws.{le_or_lt, length-word, bit-word, same_words}
@@ -29,7 +29,22 @@ word_of_bits n f = same_words (word n (λ i. bit (word n f) i)) (word n f) (leng
 
 no_state : (k : Kind) → is_built k ≡ true → k ≢ Dff → (role_of k ≡ Combinational) ⊎ (role_of k ≡ CarriedOver)
 no_state Not b n = inl refl
+no_state Pos b n = inl refl
 no_state And b n = inl refl
+no_state Or b n = inl refl
+no_state Xor b n = inl refl
+no_state Xnor b n = inl refl
+no_state ReduceAnd b n = inl refl
+no_state ReduceOr b n = inl refl
+no_state ReduceXor b n = inl refl
+no_state ReduceXnor b n = inl refl
+no_state ReduceBool b n = inl refl
+no_state LogicNot b n = inl refl
+no_state LogicAnd b n = inl refl
+no_state LogicOr b n = inl refl
+no_state Concat b n = inl refl
+no_state Slice b n = inl refl
+no_state Fa b n = inl refl
 no_state Mux b n = inl refl
 no_state ScopeInfo b n = inr refl
 no_state Dff b n = absurd (n refl)

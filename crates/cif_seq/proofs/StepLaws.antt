@@ -1,6 +1,7 @@
 -- What the evaluation of one cell leaves, from what its calls say.
-use Rattle.std.specs.Prelude.{ℕ, zero, suc, ◌+◌, ◌<◌, ◌≡◌, ◌==◌, Bool, true, false, not, ◌&&◌, List, [], ◌∷◌, length, map, get_or, take, drop, ◌++◌, refl}
-use Rattle.std.proofs.Common.{arith, ap, sym, ◌∙◌, cond}
+use Rattle.std.specs.Prelude.{ℕ, zero, suc, ◌+◌, ◌<◌, ◌≡◌, ◌==◌, Bool, true, false, not, ◌&&◌, List, [], ◌∷◌, length, map, get_or, take, drop, ◌++◌, Option, Some, None, ◌≢◌, refl}
+use Rattle.std.proofs.Common.{arith, ap, sym, subst, ◌∙◌, cond}
+use Rattle.std.proofs.lemmas.Bool.Decides.{nat_tests}
 use Rattle.std.proofs.lemmas.List.{drop_all, append-nil, take_all}
 use Rattle.cif_defs.specs.Words.{Word, bit, word, operand}
 use Rattle.cif_defs.specs.Table.{is_built, operands_of}
@@ -15,8 +16,16 @@ use Rattle.cif_defs.specs.declared.nets.Driver.TheVariants.{Input, Output, Regis
 use Rattle.cif_defs.specs.declared.kinds.Role.TheVariants.{Combinational}
 use Rattle.cif_defs.specs.declared.raw_module.RawCell.{RawCell}
 use Rattle.cif_defs.specs.declared.raw_module.Raw.{Raw}
+use Rattle.cif_defs.specs.Kinds.{role_of}
+use Rattle.cif_defs.specs.Fitted.{IsFitted, operand_widths}
+use Rattle.cif_defs.specs.declared.kinds.Kind.{Kind}
+use Rattle.cif_defs.specs.declared.kinds.Kind.TheVariants.{Mem}
+use Rattle.cif_term.specs.CellTaints.{output_width}
+use Rattle.cif_cells.specs.NetlistView.{AreFitted}
+use Rattle.cif_cells.proofs.FittedCells.{fitted_at}
 use Rattle.cif_cells.specs.Checks.{IsAccepted}
-use Rattle.cif_seq.specs.CellWords.{IsBuiltCell}
+use Rattle.cif_seq.specs.CellWords.{AreNarrow, IsBuiltCell}
+use Rattle.cif_seq.proofs.TaintWords.{narrow_operands, words_wide}
 use Rattle.cif_seq.specs.Writes.{cleared, put_words, placed}
 use Rattle.cif_seq.proofs.BuiltCells.{built_cell, length-netlist_cells, passing_combinational}
 use Rattle.cif_seq.specs.Settled.{Marks, ValuesAfter, TaintsAfter, ValuesFollow, TaintsFollow}
@@ -49,12 +58,34 @@ arity_found u x y given vs q h e b =
 pub shape_found : (u v : ℕ → Bool) (x : Cell) (given_ts given_vs ts vs : List Word) → given_ts ≡ ts → given_vs ≡ vs → ts ≡ operand_taints u x → vs ≡ operand_words v x → map length given_ts ≡ map length given_vs
 shape_found u v x given_ts given_vs ts vs qt qv ht hv = ap (λ (ws : List Word). map length ws) (qt ∙ ht) ∙ same_shape u v x.operands ∙ ap (λ (ws : List Word). map length ws) (sym (qv ∙ hv))
 
-placed_same : (c : ℕ) (f g : ℕ → ℕ → Bool) (d : Driver) (old : Bool) → ((p i : ℕ) → f p i ≡ g p i) → placed c f d old ≡ placed c g d old
-placed_same c f g (Output d p i) old h = ap (λ x. cond (c == d) x old) (h p i)
+-- a cell that isn't the evaluated one, or is it
+placed_if : (c d p i : ℕ) (t : Bool) (f g : ℕ → ℕ → Bool) (old : Bool) → (c == d) ≡ t → (c ≡ d → f p i ≡ g p i) → cond t (f p i) old ≡ cond t (g p i) old
+placed_if c d p i true f g old e h = h (grind (arith, nat_tests))
+placed_if c d p i false f g old e h = refl
+
+placed_same : (c : ℕ) (f g : ℕ → ℕ → Bool) (d : Driver) (old : Bool) → ((p i : ℕ) → d ≡ Output c p i → f p i ≡ g p i) → placed c f d old ≡ placed c g d old
+placed_same c f g (Output d p i) old h = placed_if c d p i (c == d) f g old refl (λ e. h p i (ap (λ k. Output k p i) (sym e)))
 placed_same c f g (Input p i) old h = refl
 placed_same c f g (Register d i) old h = refl
 placed_same c f g (Read d p i) old h = refl
 placed_same c f g Clock old h = refl
+
+-- an output bit that drives a net bit stands inside its output
+connected : (outs : List (List (Option ℕ))) (p i b : ℕ) → get_or (get_or outs p []) i None ≡ Some b → i < get_or (map length outs) p 0
+connected [] p zero b e = absurd (cc)
+connected [] p (suc i) b e = absurd (cc)
+connected (o ∷ outs) zero i b e = inside o i b e where
+  inside : (o : List (Option ℕ)) (i b : ℕ) → get_or o i None ≡ Some b → i < length o
+  inside [] i b e = absurd (cc)
+  inside (x ∷ o) zero b e = omega arith
+  inside (x ∷ o) (suc i) b e = let l : i < length o = inside o i b e in omega arith
+connected (o ∷ outs) (suc p) i b e = connected outs p i b e
+
+pub inside_output : (n : Netlist) (c p i b : ℕ) → IsWired n → IsFitted (cell_at n c) → driver_of n b ≡ Output c p i → i < output_width (cell_at n c) p
+inside_output n c p i b w f e =
+    let l : i < get_or (map length (cell_at n c).outputs) p 0 = connected (cell_at n c).outputs p i b (w.output_place b c p i e) in
+    let same : get_or (map length (cell_at n c).outputs) p 0 ≡ output_width (cell_at n c) p = ap (λ ns. get_or ns p 0) f.outputs in
+    omega arith
 
 pub values_found : (n : Netlist) (c : ℕ) (x : Cell) (old new : List Bool) (given vs ws written : List Word) (outs : _) (b : ℕ) → IsWired n → role_at n c ≡ Combinational → length old ≡ length n.drivers → x ≡ cell_at n c
     → outs ≡ x.outputs → given ≡ vs → vs ≡ operand_words (bit old) x → ws ≡ meaning x given → written ≡ ws → new ≡ put_words [] outs written old
@@ -65,15 +96,36 @@ values_found n c x old new given vs ws written outs b w role size hx ho hg hv hw
     ∙ ap (λ (us : List Word). put_words [] (cell_at n c).outputs us old) (hs ∙ hw ∙ ap (λ (us : List Word). meaning x us) (hg ∙ hv) ∙ ap (λ (z : Cell). meaning z (operand_words (bit old) z)) hx) in
     ap (λ (bits : List Bool). bit bits b) whole ∙ words_written n c [] old (meaning (cell_at n c) (operand_words (bit old) (cell_at n c))) b w role size
 
-pub taints_found : (n : Netlist) (c : ℕ) (x : Cell) (marks old_values old new : List Bool) (given_vs given_ts vs ts ws written : List Word) (outs : _) (b : ℕ) → IsWired n → role_at n c ≡ Combinational → length old ≡ length n.drivers → x ≡ cell_at n c
-    → outs ≡ x.outputs → given_vs ≡ vs → given_ts ≡ ts → vs ≡ operand_words (bit old_values) x → ts ≡ operand_taints (bit old) x → ((p i : ℕ) → bit (operand ws p) i ≡ output_taint x p i given_vs given_ts) → written ≡ ws → new ≡ put_words marks outs written old
+pub taints_found : (n : Netlist) (c : ℕ) (x : Cell) (marks old_values old new : List Bool) (given_vs given_ts vs ts ws written : List Word) (outs : _) (b : ℕ) → IsWired n → role_at n c ≡ Combinational → length old ≡ length n.drivers → x ≡ cell_at n c → IsFitted x
+    → outs ≡ x.outputs → given_vs ≡ vs → given_ts ≡ ts → vs ≡ operand_words (bit old_values) x → ts ≡ operand_taints (bit old) x → ((p i : ℕ) → i < output_width x p → bit (operand ws p) i ≡ output_taint x p i given_vs given_ts) → written ≡ ws → new ≡ put_words marks outs written old
     → bit new b ≡ placed c (λ p i. cleared marks b (output_taint (cell_at n c) p i (operand_words (bit old_values) (cell_at n c)) (operand_taints (bit old) (cell_at n c)))) (driver_of n b) (bit old b)
-taints_found n c x marks old_values old new given_vs given_ts vs ts ws written outs b w role size hx ho hgv hgt hv ht hw hs k =
+taints_found n c x marks old_values old new given_vs given_ts vs ts ws written outs b w role size hx fit ho hgv hgt hv ht hw hs k =
     let whole : new ≡ put_words marks (cell_at n c).outputs ws old = k ∙ ap (λ (us : _). put_words marks us written old) (ho ∙ ap (λ (z : Cell). z.outputs) hx) ∙ ap (λ (us : List Word). put_words marks (cell_at n c).outputs us old) hs in
+    let fitted : IsFitted (cell_at n c) = subst (λ (z : Cell). IsFitted z) hx fit in
     ap (λ (bits : List Bool). bit bits b) whole ∙ words_written n c marks old ws b w role size
     ∙ placed_same c (λ p i. cleared marks b (bit (operand ws p) i)) (λ p i. cleared marks b (output_taint (cell_at n c) p i (operand_words (bit old_values) (cell_at n c)) (operand_taints (bit old) (cell_at n c)))) (driver_of n b) (bit old b)
-    (λ p i. ap (cleared marks b) (hw p i ∙ ap (λ (us : List Word). output_taint x p i us given_ts) (hgv ∙ hv) ∙ ap (λ (us : List Word). output_taint x p i (operand_words (bit old_values) x) us) (hgt ∙ ht)
+    (λ p i d. ap (cleared marks b) (hw p i (let l : i < output_width (cell_at n c) p = inside_output n c p i b w fitted d in let same : output_width x p ≡ output_width (cell_at n c) p = ap (λ (z : Cell). output_width z p) hx in omega arith)
+    ∙ ap (λ (us : List Word). output_taint x p i us given_ts) (hgv ∙ hv) ∙ ap (λ (us : List Word). output_taint x p i (operand_words (bit old_values) x) us) (hgt ∙ ht)
     ∙ ap (λ (z : Cell). output_taint z p i (operand_words (bit old_values) z) (operand_taints (bit old) z)) hx))
+
+-- ---- what a cell of an accepted netlist has
+
+pub fitted_found : (raw : Raw) (cells : List Cell) (c : ℕ) (x : Cell) → AreFitted cells → cells ≡ (netlist_of raw).cells → x ≡ get_or cells c x → c < length (netlist_of raw).cells → IsFitted x
+fitted_found raw cells c x f e h l =
+    let inside : c < length cells = (let q : length cells ≡ length (netlist_of raw).cells = ap length e in omega arith) in
+    subst (λ (z : Cell). IsFitted z) (sym (h ∙ same_get cells c x no_cell inside)) (fitted_at cells f c inside)
+
+other_role : (k : Kind) → role_of k ≡ Combinational → k ≢ Mem
+other_role k r e = absurd (let q : role_of Mem ≡ Combinational = ap role_of (sym e) ∙ r in cc)
+
+pub narrow_found : (n : Netlist) (c : ℕ) (x : Cell) → IsFitted x → x ≡ cell_at n c → role_at n c ≡ Combinational → AreNarrow x.operands
+narrow_found n c x f e r = narrow_operands x f (other_role x.kind (ap (λ (z : Cell). role_of z.kind) e ∙ r))
+
+pub values_wide : (u : ℕ → Bool) (x : Cell) (given vs : List Word) → given ≡ vs → vs ≡ operand_words u x → map length given ≡ operand_widths x
+values_wide u x given vs q h = ap (λ (ws : List Word). map length ws) (q ∙ h) ∙ words_wide u x.operands
+
+pub taints_wide : (u v : ℕ → Bool) (x : Cell) (given ts : List Word) → given ≡ ts → ts ≡ operand_taints u x → map length given ≡ operand_widths x
+taints_wide u v x given ts q h = ap (λ (ws : List Word). map length ws) (q ∙ h) ∙ same_shape u v x.operands ∙ words_wide v x.operands
 
 -- what a cycle starts with, by the value or by the taint
 pub same_start : (n : Netlist) (t : TaintState) (input : ℕ → ℕ → Bool) (g : Driver) → driver_value_at_depth_0 n t.stored input g ≡ driver_taint_at_depth_0 n t input g

@@ -1,4 +1,3 @@
-pub mod Rules
 pub mod CellWords
 pub mod Writes
 pub mod Settled

@@ -3,23 +3,28 @@ ghost use Rattle.std.specs.Prelude.{◌≡◌, true, ◌<◌, length, map, IfOk,
 ghost use Rattle.cif_defs.specs.Words.{Word as WordValue, bit, operand};
 ghost use Rattle.cif_defs.specs.Kinds.{role_of};
 ghost use Rattle.cif_defs.specs.Table.{is_built, operands_of};
-ghost use Rattle.cif_defs.specs.Cells.{next_word, both_signed};
+ghost use Rattle.cif_defs.specs.Cells.{next_word};
 ghost use Rattle.cif_defs.specs.Taint.{next_register_taint};
-ghost use Rattle.cif_seq.specs.CellWords.{GivesExactly};
+ghost use Rattle.cif_defs.specs.Fitted.{IsFitted, operand_widths};
+ghost use Rattle.cif_term.specs.CellTaints.{AreTaintsOf};
+ghost use Rattle.cif_term.specs.TermView.{formula_of};
+ghost use Rattle.cif_seq.specs.CellWords.{GivesExactly, taint_words};
 
-use crate::gather::{Word, Words};
-use crate::rules::{self, Tainted};
-use cif_cells::{Cell, Kind, Listed, Param, Role};
+use crate::bits::cut;
+use crate::gather::Word;
+use cif_bits::{Bits, NoMemory};
+use cif_cells::{Cell, Kind, Param, Role, meaning};
+use cif_term::Term;
 use std::alloc::{AllocError, Global};
 
 /// The output words of a cell and their taints, one of each for an output port.
 #[derive(Drop)]
 pub struct CellWords {
-    pub values: Words,
-    pub taints: Words,
+    pub values: Vec<Bits>,
+    pub taints: Vec<Bits>,
 }
 
-/// The bits of operand `port`; none where there is no such operand.
+/// The bits of word `port`; none where there is no such word.
 pub fn operand_of(words: &[Word], port: usize) -> &[bool]
     ensures { result.now ≡ operand words.now port }
 {
@@ -29,120 +34,94 @@ pub fn operand_of(words: &[Word], port: usize) -> &[bool]
     }
 }
 
-/// Value and taint of operand `port`.
-fn tainted_operand<'a>(values: &'a [Word], taints: &'a [Word], port: usize) -> Tainted<'a>
-    ensures value { result.value.now ≡ operand values.now port }
-    ensures taint { result.taint.now ≡ operand taints.now port }
+/// The bits of the word of `port`; none where there is no such port.
+pub fn port_bits(words: &[Bits], port: usize) -> &[bool]
+    ensures { result.now ≡ operand words.now port }
 {
-    Tainted {
-        value: operand_of(values, port),
-        taint: operand_of(taints, port),
+    match words.get(port) {
+        Some(word) => word.bits(),
+        None => &[],
     }
 }
 
-/// Whether both operands of a binary cell are signed.
-fn are_signed(cell: &Cell) -> bool
-    ensures { result ≡ both_signed cell.now }
+/// The terms of a combinational cell's taint, one for each output.
+fn taint_terms(alloc: Global, cell: &Cell) -> Result<Vec<Term>, NoMemory>
+    requires built { is_built cell.now.kind ≡ true }
+    requires role { role_of cell.now.kind ≡ Role.Combinational }
+    requires fitted { IsFitted cell.now }
+    ensures { IfOk result (λ ts. AreTaintsOf cell.now (map formula_of ts.items)) }
 {
-    (cell.number(Param::ASigned) == 1) & (cell.number(Param::BSigned) == 1)
+    if rule_logic::covers(cell.kind()) {
+        rule_logic::taint_terms(alloc, cell)
+    } else {
+        rule_select::taint_terms(alloc, cell)
+    }
 }
 
-/// The words of a cell with one output.
-fn one_output(alloc: Global, value: Vec<bool>, taint: Vec<bool>) -> Result<CellWords, AllocError>
-    ensures { IfOk result (λ o. (o.values ≡ value.items ∷ []) × (o.taints ≡ taint.items ∷ [])) }
-{
-    let mut values = Vec::with_capacity(alloc, 1)?;
-    values.push(Listed::of(value))?;
-    let mut taints = Vec::with_capacity(alloc, 1)?;
-    taints.push(Listed::of(taint))?;
-    Ok(CellWords {
-        values: Listed::of(values),
-        taints: Listed::of(taints),
-    })
-}
-
-fn not_words(
+/// The values of terms, where `values` and `taints` are those of a cell's operands.
+fn term_words(
     alloc: Global,
     cell: &Cell,
-    values: &[Word],
-    taints: &[Word],
-) -> Result<CellWords, AllocError>
-    requires kind { cell.now.kind ≡ Kind.Not }
-    requires arity { length values.now ≡ 1 }
-    requires shape { map length taints.now ≡ map length values.now }
-    ensures { IfOk result (λ o. GivesExactly cell.now values.now taints.now o.values o.taints) }
+    terms: &[Term],
+    values: &[Bits],
+    taints: &[Bits],
+) -> Result<Vec<Bits>, NoMemory>
+    requires terms { AreTaintsOf cell.now (map formula_of terms.now) }
+    requires values { map length values.now ≡ operand_widths cell.now }
+    requires taints { map length taints.now ≡ operand_widths cell.now }
+    ensures { IfOk result (λ ws. ws.items ≡ taint_words cell.now values.now taints.now) }
 {
-    let width = cell.number(Param::YWidth) as usize;
-    let signed = cell.number(Param::ASigned) == 1;
-    let a = tainted_operand(values, taints, 0);
-    let value = rules::not_word(alloc, width, signed, a.value)?;
-    let taint = rules::not_taint(alloc, width, signed, a.taint)?;
-    let words = one_output(alloc, value, taint)?;
+    let _cell = cell;
+    let mut words = Vec::with_capacity(alloc, terms.len())?;
+    for i in 0..terms.len() {
+        let term = &terms[i];
+        words.push(term.eval(alloc, values, taints)?)?;
+    }
     Ok(words)
 }
 
-fn and_words(
+/// The taint words of a combinational cell's outputs, for operand words `values` with the taints `taints`: the exact
+/// taint of each bit, or the coarse one where the kind has that.
+///
+/// There is one word of the right width for each operand.
+pub fn taint_of(
     alloc: Global,
     cell: &Cell,
-    values: &[Word],
-    taints: &[Word],
-) -> Result<CellWords, AllocError>
-    requires kind { cell.now.kind ≡ Kind.And }
-    requires arity { length values.now ≡ 2 }
-    requires shape { map length taints.now ≡ map length values.now }
-    ensures { IfOk result (λ o. GivesExactly cell.now values.now taints.now o.values o.taints) }
+    values: &[Bits],
+    taints: &[Bits],
+) -> Result<Vec<Bits>, NoMemory>
+    requires built { is_built cell.now.kind ≡ true }
+    requires role { role_of cell.now.kind ≡ Role.Combinational }
+    requires fitted { IsFitted cell.now }
+    requires values { map length values.now ≡ operand_widths cell.now }
+    requires taints { map length taints.now ≡ operand_widths cell.now }
+    ensures { IfOk result (λ ws. ws.items ≡ taint_words cell.now values.now taints.now) }
 {
-    let width = cell.number(Param::YWidth) as usize;
-    let signed = are_signed(cell);
-    let a = tainted_operand(values, taints, 0);
-    let b = tainted_operand(values, taints, 1);
-    let value = rules::and_word(alloc, width, signed, a.value, b.value)?;
-    let taint = rules::and_taint(alloc, width, signed, a, b)?;
-    let words = one_output(alloc, value, taint)?;
-    Ok(words)
-}
-
-fn mux_words(
-    alloc: Global,
-    cell: &Cell,
-    values: &[Word],
-    taints: &[Word],
-) -> Result<CellWords, AllocError>
-    requires kind { cell.now.kind ≡ Kind.Mux }
-    requires arity { length values.now ≡ 3 }
-    requires shape { map length taints.now ≡ map length values.now }
-    ensures { IfOk result (λ o. GivesExactly cell.now values.now taints.now o.values o.taints) }
-{
-    let width = cell.number(Param::Width) as usize;
-    let a = tainted_operand(values, taints, 0);
-    let b = tainted_operand(values, taints, 1);
-    let select = tainted_operand(values, taints, 2);
-    let value = rules::mux_word(alloc, width, a.value, b.value, select.value)?;
-    let taint = rules::mux_taint(alloc, width, a, b, select)?;
-    let words = one_output(alloc, value, taint)?;
-    Ok(words)
+    let terms = taint_terms(alloc, cell)?;
+    Ok(term_words(alloc, cell, &terms, values, taints)?)
 }
 
 /// What a combinational cell gives for operand words `values` with the taints `taints`: the words of its meaning, and
-/// for each bit the exact taint.
-#[tactic(auto, unfolding(cif_defs::specs::Table::operands_of))]
+/// the taint of each bit.
 pub fn cell_words(
     alloc: Global,
     cell: &Cell,
-    values: &[Word],
-    taints: &[Word],
-) -> Result<CellWords, AllocError>
+    values: &[Bits],
+    taints: &[Bits],
+) -> Result<CellWords, NoMemory>
     requires built { is_built cell.now.kind ≡ true }
     requires role { role_of cell.now.kind ≡ Role.Combinational }
-    requires arity { length values.now ≡ length (operands_of cell.now.kind) }
-    requires shape { map length taints.now ≡ map length values.now }
-    ensures { IfOk result (λ o. GivesExactly cell.now values.now taints.now o.values o.taints) }
+    requires fitted { IsFitted cell.now }
+    requires values { map length values.now ≡ operand_widths cell.now }
+    requires taints { map length taints.now ≡ operand_widths cell.now }
+    ensures { IfOk result (λ o. GivesExactly cell.now values.now taints.now o.values.items o.taints.items) }
 {
-    match cell.kind() {
-        Kind::Not => Ok(not_words(alloc, cell, values, taints)?),
-        Kind::And => Ok(and_words(alloc, cell, values, taints)?),
-        _ => Ok(mux_words(alloc, cell, values, taints)?),
-    }
+    let taint_words = taint_of(alloc, cell, values, taints)?;
+    let words = meaning(alloc, cell, values)?;
+    Ok(CellWords {
+        values: words,
+        taints: taint_words,
+    })
 }
 
 /// The word that a register stores next and its taint, from its operands' words.
@@ -157,8 +136,8 @@ pub struct Stored {
 pub fn stored_next(
     alloc: Global,
     cell: &Cell,
-    values: &[Word],
-    taints: &[Word],
+    values: &[Bits],
+    taints: &[Bits],
 ) -> Result<Stored, AllocError>
     requires kind { cell.now.kind ≡ Kind.Dff }
     requires arity { length values.now ≡ 1 }
@@ -171,8 +150,7 @@ pub fn stored_next(
     ensures shape { IfOk result (λ s. length s.taint.items ≡ length s.value.items) }
 {
     let width = cell.number(Param::Width) as usize;
-    let d = tainted_operand(values, taints, 0);
-    let value = rules::cut(alloc, width, d.value)?;
-    let taint = rules::cut(alloc, width, d.taint)?;
+    let value = cut(alloc, width, port_bits(values, 0))?;
+    let taint = cut(alloc, width, port_bits(taints, 0))?;
     Ok(Stored { value, taint })
 }

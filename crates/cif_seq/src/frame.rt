@@ -10,7 +10,7 @@ use crate::case::Case;
 use crate::cell::operand_of;
 use crate::gather::Word;
 use crate::inputs::input_words;
-use crate::rules::bit_of;
+use crate::bits::bit_of;
 use crate::settle::{Start, settled};
 use crate::state::{StoredWords, next_words, start_words};
 use cif_bits::NoMemory;

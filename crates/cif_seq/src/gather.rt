@@ -1,17 +1,16 @@
 // The words that a cell reads.
-ghost use Rattle.std.specs.Prelude.{◌≡◌, length, IfOk};
+ghost use Rattle.std.specs.Prelude.{◌≡◌, ◌≤◌, length, IfOk};
 ghost use Rattle.cif_defs.specs.Words.{bit};
 ghost use Rattle.cif_defs.specs.Run.{src_bit, src_word, words_under, operand_words};
 ghost use Rattle.cif_defs.specs.TaintRun.{src_taint, taint_word, taints_under, operand_taints};
+ghost use Rattle.cif_seq.specs.CellWords.{AreNarrow};
 
+use cif_bits::{Bits, NoMemory};
 use cif_cells::{Cell, Listed, Sources, Src};
 use std::alloc::{AllocError, Global};
 
 /// A word of bits, lowest first.
 pub type Word = Listed<bool>;
-
-/// Words, one for each port of a cell.
-pub type Words = Listed<Word>;
 
 /// The value of one bit that is read, where `values` are those of the net bits.
 pub fn source_value(values: &[bool], source: Src) -> bool
@@ -54,46 +53,52 @@ fn taint_bits(alloc: Global, taints: &[bool], sources: &[Src]) -> Result<Vec<boo
     Ok(word)
 }
 
+/// The words of operands.
 fn value_words_of(
     alloc: Global,
     values: &[bool],
     operands: &[Sources],
-) -> Result<Vec<Word>, AllocError>
+) -> Result<Vec<Bits>, NoMemory>
+    requires { AreNarrow operands.now }
     ensures { IfOk result (λ ws. ws.items ≡ words_under (bit values.now) operands.now) }
 {
     let mut words = Vec::with_capacity(alloc, operands.len())?;
     for sources in operands {
         let bits = value_bits(alloc, values, sources.items())?;
-        words.push(Listed::of(bits))?;
+        words.push(Bits::of(bits))?;
     }
     Ok(words)
 }
 
+/// The taints of operands.
 fn taint_words_of(
     alloc: Global,
     taints: &[bool],
     operands: &[Sources],
-) -> Result<Vec<Word>, AllocError>
+) -> Result<Vec<Bits>, NoMemory>
+    requires { AreNarrow operands.now }
     ensures { IfOk result (λ ws. ws.items ≡ taints_under (bit taints.now) operands.now) }
 {
     let mut words = Vec::with_capacity(alloc, operands.len())?;
     for sources in operands {
         let bits = taint_bits(alloc, taints, sources.items())?;
-        words.push(Listed::of(bits))?;
+        words.push(Bits::of(bits))?;
     }
     Ok(words)
 }
 
 /// The operand words of a cell.
-pub fn value_words(alloc: Global, values: &[bool], cell: &Cell) -> Result<Words, AllocError>
-    ensures { IfOk result (λ ws. ws ≡ operand_words (bit values.now) cell.now) }
+pub fn value_words(alloc: Global, values: &[bool], cell: &Cell) -> Result<Vec<Bits>, NoMemory>
+    requires { AreNarrow cell.now.operands }
+    ensures { IfOk result (λ ws. ws.items ≡ operand_words (bit values.now) cell.now) }
 {
-    Ok(Listed::of(value_words_of(alloc, values, cell.operands())?))
+    Ok(value_words_of(alloc, values, cell.operands())?)
 }
 
 /// The taints of a cell's operand words.
-pub fn taint_words(alloc: Global, taints: &[bool], cell: &Cell) -> Result<Words, AllocError>
-    ensures { IfOk result (λ ws. ws ≡ operand_taints (bit taints.now) cell.now) }
+pub fn taint_words(alloc: Global, taints: &[bool], cell: &Cell) -> Result<Vec<Bits>, NoMemory>
+    requires { AreNarrow cell.now.operands }
+    ensures { IfOk result (λ ws. ws.items ≡ operand_taints (bit taints.now) cell.now) }
 {
-    Ok(Listed::of(taint_words_of(alloc, taints, cell.operands())?))
+    Ok(taint_words_of(alloc, taints, cell.operands())?)
 }

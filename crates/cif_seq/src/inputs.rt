@@ -6,7 +6,7 @@ ghost use Rattle.cif_defs.specs.Stimulus.{input_at};
 ghost use Rattle.cif_seq.specs.Inputs.{HoldsInputs, input_width};
 
 use crate::cell::Stored;
-use crate::rules::cut;
+use crate::bits::cut;
 use crate::state::StoredWords;
 use cif_cells::{Listed, Netlist};
 use cif_stim::Stimulus;

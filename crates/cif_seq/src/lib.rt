@@ -1,15 +1,16 @@
 //! Frames: the value and the taint of each bit of a netlist, cycle by cycle.
 #![tactic(auto)]
 
+mod bits;
 mod case;
 mod cell;
 mod frame;
 mod gather;
 mod inputs;
-mod rules;
 mod settle;
 mod state;
 mod write;
 
 pub use case::Case;
+pub use cell::taint_of;
 pub use frame::{Frame, first_frame, next_frame};

@@ -13,8 +13,9 @@ ghost use Rattle.cif_seq.specs.Settled.{input_bits, ValuesFollow, TaintsFollow};
 
 use crate::cell::{cell_words, operand_of};
 use crate::gather::{Word, taint_words, value_words};
-use crate::rules::bit_of;
+use crate::bits::bit_of;
 use crate::write::write_words;
+use cif_bits::NoMemory;
 use cif_cells::{Driver, Netlist, Role, table};
 use std::alloc::{AllocError, Global};
 
@@ -26,7 +27,7 @@ fn evaluate_cell(
     released: &[bool],
     values: &mut [bool],
     taints: &mut [bool],
-) -> Result<(), AllocError>
+) -> Result<(), NoMemory>
     requires inside { number < length (netlist_of netlist.now).cells }
     requires role { role_at (netlist_of netlist.now) number ≡ Role.Combinational }
     requires as_many_values { length values.old ≡ length (netlist_of netlist.now).drivers }
@@ -44,9 +45,9 @@ fn evaluate_cell(
     let cell = &netlist.cells()[number as usize];
     let operand_values = value_words(alloc, values, cell)?;
     let operand_taints = taint_words(alloc, taints, cell)?;
-    let words = cell_words(alloc, cell, operand_values.items(), operand_taints.items())?;
-    write_words(values, &[], cell.outputs(), words.values.items());
-    write_words(taints, released, cell.outputs(), words.taints.items());
+    let words = cell_words(alloc, cell, &operand_values, &operand_taints)?;
+    write_words(values, &[], cell.outputs(), &words.values);
+    write_words(taints, released, cell.outputs(), &words.taints);
     Ok(())
 }
 
@@ -58,7 +59,7 @@ fn evaluate_cells(
     marks: &[bool],
     values: &mut [bool],
     taints: &mut [bool],
-) -> Result<(), AllocError>
+) -> Result<(), NoMemory>
     requires levelled { IsLevelled (netlist_of netlist.now) order.now }
     requires as_many_values { length values.old ≡ length (netlist_of netlist.now).drivers }
     requires as_many_taints { length taints.old ≡ length (netlist_of netlist.now).drivers }
@@ -158,7 +159,7 @@ pub fn settled(
     order: &[u32],
     marks: &[bool],
     start: Start,
-) -> Result<NetBits, AllocError>
+) -> Result<NetBits, NoMemory>
     requires { IsLevelled (netlist_of netlist.now) order.now }
     ensures values { IfOk result (λ o. (b : ℕ) → bit o.values.items b
         ≡ value_in (netlist_of netlist.now) start.entry.stored.now (input_bits start.entry.inputs.now) b) }

@@ -12,6 +12,7 @@ ghost use Rattle.cif_seq.specs.States.{StartsWith, NextWords};
 
 use crate::cell::{Stored, stored_next};
 use crate::gather::{Word, taint_words, value_words};
+use cif_bits::NoMemory;
 use cif_cells::{Kind, Listed, Netlist, Param};
 use cif_stim::Stimulus;
 use std::alloc::{AllocError, Global};
@@ -83,7 +84,7 @@ fn next_word(
     number: u32,
     values: &[bool],
     taints: &[bool],
-) -> Result<Stored, AllocError>
+) -> Result<Stored, NoMemory>
     requires { number < length (netlist_of netlist.now).cells }
     ensures value { IfOk result (λ s. (stored : WordValue) → s.value.items
         ≡ stored_by (role_at (netlist_of netlist.now) number) (cell_at (netlist_of netlist.now) number)
@@ -98,7 +99,7 @@ fn next_word(
         Kind::Dff => {
             let operand_values = value_words(alloc, values, cell)?;
             let operand_taints = taint_words(alloc, taints, cell)?;
-            let stored = stored_next(alloc, cell, operand_values.items(), operand_taints.items())?;
+            let stored = stored_next(alloc, cell, &operand_values, &operand_taints)?;
             Ok(stored)
         }
         _ => Ok(Stored {
@@ -114,7 +115,7 @@ pub fn next_words(
     netlist: &Netlist,
     values: &[bool],
     taints: &[bool],
-) -> Result<StoredWords, AllocError>
+) -> Result<StoredWords, NoMemory>
     ensures { IfOk result (λ s. NextWords (netlist_of netlist.now) (bit values.now) (bit taints.now) s.values.items s.taints.items) }
 {
     let count = netlist.cells().len() as u32;

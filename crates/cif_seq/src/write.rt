@@ -2,9 +2,9 @@
 ghost use Rattle.std.specs.Prelude.{◌≡◌};
 ghost use Rattle.cif_seq.specs.Writes.{put_word, put_words};
 
-use crate::cell::operand_of;
-use crate::gather::Word;
-use crate::rules::bit_of;
+use crate::cell::port_bits;
+use crate::bits::bit_of;
+use cif_bits::Bits;
 use cif_cells::{NetBit, Targets};
 
 /// Writes a word to the net bits of one output; a bit that `marks` has is written as 0.
@@ -21,11 +21,11 @@ fn write_word(bits: &mut [bool], marks: &[bool], targets: &[Option<NetBit>], wor
 }
 
 /// Writes the words of a cell to the net bits that its outputs drive; a bit that `marks` has is written as 0.
-pub fn write_words(bits: &mut [bool], marks: &[bool], outputs: &[Targets], words: &[Word])
+pub fn write_words(bits: &mut [bool], marks: &[bool], outputs: &[Targets], words: &[Bits])
     ensures { bits.new ≡ put_words marks.now outputs.now words.now bits.old }
 {
     for port in 0..outputs.len() {
         let targets = &outputs[port];
-        write_word(bits, marks, targets.items(), operand_of(words, port));
+        write_word(bits, marks, targets.items(), port_bits(words, port));
     }
 }

@@ -2,3 +2,4 @@ pub mod Formulas
 pub mod TermView
 pub mod CellTaints
 pub mod Extended
+pub mod Scopes

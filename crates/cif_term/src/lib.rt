@@ -4,10 +4,17 @@
 //! as a formula: `formula_of`. What a formula stands for, how wide it is and what it costs are definitions.
 #![tactic(auto)]
 
+mod apply;
+mod cost;
+mod eval;
 mod extended;
 mod ops;
+mod scope;
 mod shadow;
 mod term;
+#[cfg(test)]
+mod tests;
+mod width;
 
 pub use ops::{Op1, Op2};
 pub use shadow::Shadow;

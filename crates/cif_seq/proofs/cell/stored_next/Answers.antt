@@ -1,6 +1,6 @@
 use Rattle.std.proofs.Common.{◌∙◌, ap, sym, length}
 use Rattle.cif_defs.proofs.WordLaws.{length-word}
-use Rattle.cif_seq.proofs.CellWords.{dff_value_by, dff_taint_by}
+use Rattle.cif_seq.proofs.RegisterWords.{dff_value_by, dff_taint_by}
 use Rattle.cif_seq.proofs.cell.stored_next.Goals as goal
 
 pub returns-clause-value : goal.returns-clause-value

@@ -2,7 +2,11 @@ use Rattle.std.proofs.Common.{◌∙◌, ap}
 use Rattle.cif_defs.specs.Words.{bit}
 use Rattle.cif_defs.specs.Run.{src_word}
 use Rattle.cif_seq.proofs.Gathered.{values_push}
+use Rattle.cif_seq.proofs.TaintWords.{narrow_word}
 use Rattle.cif_seq.proofs.gather.value_words_of.Goals as goal
+
+pub of-requires : goal.of-requires
+of-requires c = ?
 
 pub loop-sources-preserved : goal.loop-sources-preserved
 loop-sources-preserved c =

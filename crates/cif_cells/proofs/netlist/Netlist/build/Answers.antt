@@ -10,7 +10,7 @@ returns-in_err-nets-clause-err c =
     rw (p.1, p.2) (early_first c.args.raw _ c.in_err-nets.ensures.err)
 
 pub all_inits-requires : goal.all_inits-requires
-all_inits-requires c = numbers_increase c.in_ok-nets.nets c.numbers.result.now c.numbers.ensures
+all_inits-requires c = numbers_increase c.in_ok-nets.nets c.numbers.result.now c.numbers.ensures.is
 
 pub returns-in_err-check_nets-clause-err : goal.returns-in_err-check_nets-clause-err
 returns-in_err-check_nets-clause-err c =

@@ -1,0 +1,63 @@
+-- The widths of the operands of registers, and which row each kind takes.
+use Rattle.std.specs.Prelude.{ℕ, ◌<◌, ◌≤◌, ◌≡◌, ◌≢◌, true, List, [], ◌∷◌, map, length, get_or, refl}
+use Rattle.std.proofs.Common.{arith, sym, ap, ◌∙◌}
+use Rattle.cif_defs.specs.Words.{Word, operand}
+use Rattle.cif_defs.specs.Kinds.{role_of}
+use Rattle.cif_defs.specs.Cells.{Cell, number_of, width}
+use Rattle.cif_defs.specs.Fitted.{IsFitted, AllWithin, operand_widths, row_width}
+use Rattle.cif_defs.specs.Table.{operands_of, outputs_of, width_limit, d_row, row}
+use Rattle.cif_defs.specs.declared.kinds.Kind.{Kind}
+use Rattle.cif_defs.specs.declared.kinds.Kind.TheVariants.{Dff, Dffe, Sdff, Sdffe, Sdffce, Adff, Adffe, Mem}
+use Rattle.cif_defs.specs.declared.kinds.Param.TheVariants.{Width}
+use Rattle.cif_defs.specs.declared.kinds.CellPort.TheVariants.{Q}
+use Rattle.cif_defs.specs.declared.kinds.PortWidth.TheVariants.{Of}
+use Rattle.cif_defs.specs.declared.kinds.PortRow.{PortRow}
+use Rattle.cif_cells.specs.RegisterKinds.{is_register}
+use Rattle.cif_cells.proofs.OperandWidths.{map_width, outputs_within, widths_are}
+
+record IsRegisterKind (k : Kind) : Type 0 where
+  pub further : List PortRow
+  pub operands : operands_of k ≡ d_row ∷ further
+  pub outputs : outputs_of k ≡ row Q (Of Width) ∷ []
+  pub limit : width_limit k Q ≡ 4096
+  pub no_memory : k ≢ Mem
+
+register_kind : (k : Kind) → is_register (role_of k) ≡ true → IsRegisterKind k
+unfolding operands_of outputs_of width_limit
+register_kind Dff h = record { further = _; operands = refl; outputs = refl; limit = refl; no_memory = λ e. cc }
+register_kind Dffe h = record { further = _; operands = refl; outputs = refl; limit = refl; no_memory = λ e. cc }
+register_kind Sdff h = record { further = _; operands = refl; outputs = refl; limit = refl; no_memory = λ e. cc }
+register_kind Sdffe h = record { further = _; operands = refl; outputs = refl; limit = refl; no_memory = λ e. cc }
+register_kind Sdffce h = record { further = _; operands = refl; outputs = refl; limit = refl; no_memory = λ e. cc }
+register_kind Adff h = record { further = _; operands = refl; outputs = refl; limit = refl; no_memory = λ e. cc }
+register_kind Adffe h = record { further = _; operands = refl; outputs = refl; limit = refl; no_memory = λ e. cc }
+register_kind _ h = absurd (cc)
+
+-- ---- widths
+
+pub record IsRegisterWidth (c : Cell) : Type 0 where
+  pub some : 1 ≤ width c
+  pub limit : width c ≤ 4096
+
+pub register_width_fits : (c : Cell) → is_register (role_of c.kind) ≡ true → IsFitted c → IsRegisterWidth c
+register_width_fits c r f =
+    let k : IsRegisterKind c.kind = register_kind c.kind r in
+    let outs : AllWithin c (row Q (Of Width) ∷ []) = outputs_within c _ k.outputs k.no_memory f in
+    let low : number_of c Width ≤ width_limit c.kind Q = outs.0.limit in
+    record { some = outs.0.some; limit = omega (arith, k.limit) }
+
+inside : (us : List Word) (n : ℕ) → 1 ≤ n → length (operand us 0) ≡ n → 0 < length us
+inside [] n h e = absurd (let none : 0 ≡ n = e in omega arith)
+inside (u ∷ us) n h e = omega arith
+
+pub record IsRegisterFit (c : Cell) (us : List Word) : Type 0 where
+  pub inside : 0 < length us
+  pub d : 1 ≤ length (operand us 0)
+
+pub register_fits : (c : Cell) (us : List Word) → is_register (role_of c.kind) ≡ true → IsFitted c → map length us ≡ operand_widths c → IsRegisterFit c us
+register_fits c us r f h =
+    let k : IsRegisterKind c.kind = register_kind c.kind r in
+    let w : IsRegisterWidth c = register_width_fits c r f in
+    let widths : map length us ≡ width c ∷ map (row_width c) k.further = widths_are c us (d_row ∷ k.further) k.operands f h in
+    let d_is : length (operand us 0) ≡ width c = sym (map_width us 0) ∙ ap (λ ns. get_or ns 0 0) widths in
+    record { inside = inside us (width c) w.some d_is; d = omega (arith, w.some) }

@@ -1,0 +1,4 @@
+pub mod Filling
+pub mod SingleCells
+pub mod ExactLaws
+pub mod TestCells

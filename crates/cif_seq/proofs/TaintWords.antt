@@ -1,0 +1,138 @@
+-- The taint words of a cell, from the values of its terms.
+use Rattle.std.specs.Prelude.{ℕ, zero, suc, ◌+◌, ◌<◌, ◌≤◌, ◌≡◌, ◌≢◌, Bool, true, false, List, [], ◌∷◌, ◌++◌, length, map, get_or, take, Some, refl}
+use Rattle.std.specs.List.{range_with_len}
+use Rattle.std.proofs.Common.{arith, ap, sym, ◌∙◌, inl, inr}
+use Rattle.std.proofs.lemmas.List.{ext_get_or, get_or-map, get_or_past, length-map, map_push, take_all, take_more}
+use Rattle.std.proofs.lemmas.List.FromFn.{get_or-map-range_with_len, length-map-range_with_len}
+use Rattle.cif_defs.specs.Words.{Word, bit, operand, word}
+use Rattle.cif_defs.specs.Kinds.{role_of}
+use Rattle.cif_defs.specs.Table.{is_built, operands_of, outputs_of, width_limit}
+use Rattle.cif_defs.specs.Cells.{Cell, meaning}
+use Rattle.cif_defs.specs.Taint.{output_taint}
+use Rattle.cif_defs.specs.Fitted.{AllWithin, IsFitted, IsWithin, operand_widths, row_width}
+use Rattle.cif_defs.specs.Run.{src_word, words_under}
+use Rattle.cif_defs.specs.TaintRun.{taints_under}
+use Rattle.cif_defs.specs.declared.kinds.Kind.{Kind}
+use Rattle.cif_defs.specs.declared.kinds.Kind.TheVariants.{Not, Pos, And, Or, Xor, Xnor, ReduceAnd, ReduceOr, ReduceXor, ReduceXnor, ReduceBool, LogicNot, LogicAnd, LogicOr, Concat, Slice, Fa, Mux, Dff, ScopeInfo, Mem}
+use Rattle.cif_defs.specs.declared.kinds.PortRow.{PortRow}
+use Rattle.cif_defs.specs.declared.kinds.Role.TheVariants.{Combinational}
+use Rattle.cif_defs.specs.declared.nets.Src.{Src}
+use Rattle.cif_defs.proofs.WordLaws.{bit-word, le_or_lt}
+use Rattle.cif_cells.proofs.CellChecks.{limit_small}
+use Rattle.cif_term.specs.declared.term.Term.{Term}
+use Rattle.cif_term.specs.Formulas.{Formula, Const, value_of, width_of}
+use Rattle.cif_term.specs.TermView.{formula_of}
+use Rattle.cif_term.specs.CellTaints.{AreTaintsOf, output_width, taint_word}
+use Rattle.rule_logic.specs.LogicFormulas.{covers_logic}
+use Rattle.rule_select.specs.Selects.{is_select}
+use Rattle.cif_seq.specs.CellWords.{AreNarrow, GivesExactly, taint_words}
+
+-- ---- each built combinational kind has its terms
+
+covered_by : (k : Kind) → is_built k ≡ true → role_of k ≡ Combinational → covers_logic k ≡ false → is_select k ≡ true
+covered_by Not b r h = absurd (cc)
+covered_by Pos b r h = absurd (cc)
+covered_by And b r h = absurd (cc)
+covered_by Or b r h = absurd (cc)
+covered_by Xor b r h = absurd (cc)
+covered_by Xnor b r h = absurd (cc)
+covered_by ReduceAnd b r h = absurd (cc)
+covered_by ReduceOr b r h = absurd (cc)
+covered_by ReduceXor b r h = absurd (cc)
+covered_by ReduceXnor b r h = absurd (cc)
+covered_by ReduceBool b r h = absurd (cc)
+covered_by LogicNot b r h = absurd (cc)
+covered_by LogicAnd b r h = absurd (cc)
+covered_by LogicOr b r h = absurd (cc)
+covered_by Concat b r h = absurd (cc)
+covered_by Slice b r h = absurd (cc)
+covered_by Fa b r h = absurd (cc)
+covered_by Mux b r h = refl
+covered_by Dff b r h = absurd (cc)
+covered_by ScopeInfo b r h = absurd (cc)
+covered_by _ b r h = absurd (cc)
+
+pub covered : (k q : Kind) (t : Bool) → is_built k ≡ true → role_of k ≡ Combinational → t ≡ covers_logic q → q ≡ k → t ≡ false → is_select k ≡ true
+covered k q t b r e f h = covered_by k b r (sym (e ∙ ap covers_logic f) ∙ h)
+
+-- ---- the values of terms
+
+abbrev pub values_of : List Term → List Word → List Word → List Word
+values_of terms vs ts = map (λ t. value_of (formula_of t) vs ts []) terms
+
+pub one_more : (terms : List Term) (i : ℕ) (d t : Term) (vs ts ws us : List Word) (w : Word) → i < length terms → ws ≡ values_of (take i terms) vs ts → us ≡ ws ++ w ∷ [] → t ≡ get_or terms i d → w ≡ value_of (formula_of t) vs ts []
+    → us ≡ values_of (take (i + 1) terms) vs ts
+one_more terms i d t vs ts ws us w l e f g h =
+    f ∙ ap (λ (x : List Word). x ++ w ∷ []) e ∙ ap (λ (x : Word). values_of (take i terms) vs ts ++ x ∷ []) (h ∙ ap (λ (x : Term). value_of (formula_of x) vs ts []) g)
+    ∙ sym (ap (λ (x : List Term). values_of x vs ts) (take_more terms i d l) ∙ map_push (λ x. value_of (formula_of x) vs ts []) (take i terms) (get_or terms i d))
+
+formula_at : (terms : List Term) (i : ℕ) (d : Term) → i < length terms → get_or (map formula_of terms) i (Const []) ≡ formula_of (get_or terms i d)
+formula_at terms i d l = get_or-map formula_of terms i d (Const []) l
+
+pub formed_at : (c : Cell) (terms : List Term) (i : ℕ) (d t : Term) (vs : List Word) → AreTaintsOf c (map formula_of terms) → i < length terms → t ≡ get_or terms i d → map length vs ≡ operand_widths c → (n : ℕ) × (width_of (formula_of t) (map length vs) [] ≡ Some n)
+formed_at c terms i d t vs a l e h =
+    let long : length (map formula_of terms) ≡ length terms = length-map terms formula_of in
+    let one = a.each i (omega arith) in
+    (output_width c i, ap (λ ws. width_of (formula_of t) ws []) h ∙ ap (λ (f : Formula). width_of f (operand_widths c) []) (ap formula_of e ∙ sym (formula_at terms i d l)) ∙ one.formed)
+
+pub words_are : (c : Cell) (terms : List Term) (n : ℕ) (d : Term) (vs ts ws : List Word) → AreTaintsOf c (map formula_of terms) → map length vs ≡ operand_widths c → map length ts ≡ operand_widths c → length terms ≤ n → ws ≡ values_of (take n terms) vs ts → ws ≡ taint_words c vs ts
+words_are c terms n d vs ts ws a hv ht l e =
+    let long : length (map formula_of terms) ≡ length terms = length-map terms formula_of in
+    let whole : ws ≡ values_of terms vs ts = e ∙ ap (λ (x : List Term). values_of x vs ts) (take_all n terms l) in
+    let count : ℕ = length (outputs_of c.kind) in
+    let many : length terms ≡ length (outputs_of c.kind) = sym long ∙ a.as_many in
+    whole ∙ ext_get_or [] (values_of terms vs ts) (taint_words c vs ts) (length-map terms (λ t. value_of (formula_of t) vs ts []) ∙ many ∙ sym (length-map-range_with_len (taint_word c vs ts) 0 (length (outputs_of c.kind))))
+    (λ p h. let inside : p < length terms = (let q : length (values_of terms vs ts) ≡ length terms = length-map terms (λ t. value_of (formula_of t) vs ts []) in omega arith) in
+      let one = a.each p (omega arith) in
+      get_or-map (λ t. value_of (formula_of t) vs ts []) terms p d [] inside ∙ ap (λ (f : Formula). value_of f vs ts []) (sym (formula_at terms p d inside)) ∙ one.means vs ts hv ht
+      ∙ sym (get_or-map-range_with_len (taint_word c vs ts) 0 (length (outputs_of c.kind)) p p [] (omega arith) (omega arith)))
+
+-- ---- what a cell gives
+
+width_past : (c : Cell) (p : ℕ) → length (outputs_of c.kind) ≤ p → output_width c p ≡ 0
+width_past c p h = get_or_past (map (row_width c) (outputs_of c.kind)) p 0 (let e : length (map (row_width c) (outputs_of c.kind)) ≡ length (outputs_of c.kind) = length-map (outputs_of c.kind) (row_width c) in omega arith)
+
+pub gives : (c : Cell) (vs ts words taints : List Word) → words ≡ meaning c vs → taints ≡ taint_words c vs ts → GivesExactly c vs ts words taints
+gives c vs ts words taints e f = record { values = e; taints = λ p i h. elim (le_or_lt p (length (outputs_of c.kind))) [
+  | inl l ↦ ap (λ (ws : List Word). bit (operand ws p) i) f
+    ∙ ap (λ (w : Word). bit w i) (get_or-map-range_with_len (taint_word c vs ts) 0 (length (outputs_of c.kind)) p p [] l (omega arith))
+    ∙ bit-word (output_width c p) (λ k. output_taint c p k vs ts) i false h
+  | inr l ↦ absurd (let z : output_width c p ≡ 0 = width_past c p l in omega arith)
+] }
+
+-- ---- the words that a fitted cell reads
+
+length-source : (v : ℕ → Bool) (ss : List Src) → length (src_word v ss) ≡ length ss
+length-source v [] = refl
+length-source v (s ∷ ss) = ap suc (length-source v ss)
+
+pub words_wide : (v : ℕ → Bool) (ops : List (List Src)) → map length (words_under v ops) ≡ map length ops
+words_wide v [] = refl
+words_wide v (ss ∷ ops) = let one : length (src_word v ss) ≡ length ss = length-source v ss in let rest : map length (words_under v ops) ≡ map length ops = words_wide v ops in cc
+
+row_small : (c : Cell) (rows : List PortRow) (p : ℕ) → AllWithin c rows → get_or (map (row_width c) rows) p 0 ≤ 65536
+row_small c [] p w = omega arith
+row_small c (r ∷ rows) zero w = let one : IsWithin c r = w.0 in let l : row_width c r ≤ width_limit c.kind r.port = one.limit in let s : width_limit c.kind r.port ≤ 65536 = limit_small c.kind r.port in omega arith
+row_small c (r ∷ rows) (suc p) w = row_small c rows p w.1
+
+long_at : (ops : List (List Src)) (p : ℕ) → get_or (map length ops) p 0 ≡ length (get_or ops p [])
+long_at [] p = refl
+long_at (o ∷ ops) zero = refl
+long_at (o ∷ ops) (suc p) = long_at ops p
+
+pub narrow_operands : (c : Cell) → IsFitted c → c.kind ≢ Mem → AreNarrow c.operands
+unfolding AreNarrow
+narrow_operands c f n = λ p.
+    let small : get_or (map (row_width c) (operands_of c.kind)) p 0 ≤ 65536 = row_small c (operands_of c.kind) p (f.operands_within n) in
+    let same : length (get_or c.operands p []) ≡ get_or (map (row_width c) (operands_of c.kind)) p 0 = sym (long_at c.operands p) ∙ ap (λ ns. get_or ns p 0) f.operands in
+    omega arith
+
+pub narrow_at : (ops : List (List Src)) (p : ℕ) → AreNarrow ops → length (get_or ops p []) ≤ 65536
+unfolding AreNarrow
+narrow_at ops p h = h p
+
+pub narrow_word : (v : ℕ → Bool) (ops : List (List Src)) (p : ℕ) (ss : List Src) (w : Word) → AreNarrow ops → ss ≡ get_or ops p [] → w ≡ src_word v ss → length w ≤ 65536
+narrow_word v ops p ss w h e f =
+    let a : length w ≡ length ss = ap length f ∙ length-source v ss in
+    let b : length ss ≡ length (get_or ops p []) = ap length e in
+    let l : length (get_or ops p []) ≤ 65536 = narrow_at ops p h in omega arith

@@ -1,6 +1,0 @@
-use Rattle.std.proofs.Common.{◌≡◌, ◌&&◌}
-use Rattle.cif_defs.specs.Words.{word, extended_bit}
-use Rattle.cif_seq.proofs.rules.and_word.Given as goal
-
-abbrev pub invariant-loop-i : goal.invariant-loop-i
-invariant-loop-i l = l.word.items ≡ word l.i (λ i. extended_bit l.signed i l.a && extended_bit l.signed i l.b)

@@ -1,0 +1,23 @@
+// Bits of words that may be read past their ends.
+ghost use Rattle.std.specs.Prelude.{◌≡◌, IfOk};
+ghost use Rattle.cif_defs.specs.Words.{bit, word};
+
+use std::alloc::{AllocError, Global};
+
+/// Bit `index` of a word, which is 0 past its end.
+pub fn bit_of(word: &[bool], index: usize) -> bool
+    ensures { result ≡ bit word.now index }
+{
+    word.get(index).copied().unwrap_or(false)
+}
+
+/// The first bits of a word, with 0 past its end.
+pub fn cut(alloc: Global, width: usize, source: &[bool]) -> Result<Vec<bool>, AllocError>
+    ensures { IfOk result (λ w. w.items ≡ word width (λ i. bit source.now i)) }
+{
+    let mut word = Vec::with_capacity(alloc, width)?;
+    for i in 0..width {
+        word.push(bit_of(source, i))?;
+    }
+    Ok(word)
+}

@@ -1,0 +1,54 @@
+-- The formula of each kind that selects computes the exact taint.
+use Rattle.std.specs.Prelude.{ℕ, zero, suc, ◌<◌, ◌≡◌, true, List, [], ◌∷◌, length, refl}
+use Rattle.std.proofs.Common.{arith, sym, ap, subst, ◌∙◌}
+use Rattle.cif_defs.specs.declared.kinds.Kind.{Kind}
+use Rattle.cif_defs.specs.declared.kinds.Kind.TheVariants.{Mux}
+use Rattle.cif_defs.specs.Cells.{Cell}
+use Rattle.cif_defs.specs.Table.{outputs_of}
+use Rattle.cif_defs.specs.Fitted.{IsFitted}
+use Rattle.cif_term.specs.Formulas.{Formula}
+use Rattle.cif_term.specs.CellTaints.{AreTaintsOf, IsTaintOf}
+use Rattle.rule_select.specs.Selects.{is_select, formula_by, select_formula}
+use Rattle.rule_select.specs.Mux.{mux_formula}
+use Rattle.rule_select.proofs.MuxLaws.{mux_taints}
+
+taints_by : (k : Kind) (c : Cell) → IsFitted c → is_select k ≡ true → c.kind ≡ k → AreTaintsOf c (formula_by k c ∷ [])
+unfolding formula_by
+taints_by Mux c f h e = mux_taints c f e
+taints_by _ c f h e = absurd (cc)
+
+pub select_taints : (c : Cell) → IsFitted c → is_select c.kind ≡ true → AreTaintsOf c (select_formula c ∷ [])
+select_taints c f h = taints_by c.kind c f h refl
+
+-- each kind that selects has one output
+one_by : (k : Kind) → is_select k ≡ true → length (outputs_of k) ≡ 1
+unfolding outputs_of
+one_by Mux h = refl
+one_by _ h = absurd (cc)
+
+pub one_port : (c : Cell) → is_select c.kind ≡ true → length (outputs_of c.kind) ≡ 1
+one_port c h = one_by c.kind h
+
+at_zero : (c : Cell) (p : ℕ) → IsFitted c → is_select c.kind ≡ true → p < 1 → IsTaintOf c p (select_formula c)
+at_zero c zero f h l = (select_taints c f h).each 0 (omega arith)
+at_zero c (suc p) f h l = absurd (omega arith)
+
+-- the formula serves each output, of which there is one
+pub taint_at : (c : Cell) (p : ℕ) (f : Formula) → IsFitted c → is_select c.kind ≡ true → p < length (outputs_of c.kind) → f ≡ select_formula c → IsTaintOf c p f
+taint_at c p f fits h l e = let one : length (outputs_of c.kind) ≡ 1 = one_port c h in subst (λ g. IsTaintOf c p g) (sym e) (at_zero c p fits h (omega arith))
+
+pub taints_are : (c : Cell) (f : Formula) (fs : List Formula) → IsFitted c → is_select c.kind ≡ true → f ≡ select_formula c → fs ≡ f ∷ [] → AreTaintsOf c fs
+taints_are c f fs fits h e g = subst (λ (gs : List Formula). AreTaintsOf c gs) (sym (g ∙ ap (λ x. x ∷ []) e)) (select_taints c fits h)
+
+-- ---- which formula stands for a kind
+
+formula_is : (c : Cell) (k : Kind) → c.kind ≡ k → select_formula c ≡ formula_by k c
+formula_is c k e = ap (λ x. formula_by x c) e
+
+mux_by : (k : Kind) (c : Cell) → is_select k ≡ true → formula_by k c ≡ mux_formula
+unfolding formula_by
+mux_by Mux c h = refl
+mux_by _ c h = absurd (cc)
+
+pub mux_is : (c : Cell) → is_select c.kind ≡ true → select_formula c ≡ mux_formula
+mux_is c h = mux_by c.kind c h

@@ -1,0 +1,20 @@
+-- The kinds of cells that select, and the formula of the taint of each.
+use Rattle.std.specs.Prelude.{Bool, true, false, []}
+use Rattle.cif_defs.specs.declared.kinds.Kind.{Kind}
+use Rattle.cif_defs.specs.declared.kinds.Kind.TheVariants.{Mux}
+use Rattle.cif_defs.specs.Cells.{Cell}
+use Rattle.cif_term.specs.Formulas.{Formula, Const}
+use Rattle.rule_select.specs.Mux.{mux_formula}
+
+-- the kinds whose taint has a formula here
+abbrev pub is_select : Kind → Bool
+is_select Mux = true
+is_select _ = false
+
+unfoldable pub formula_by : Kind → Cell → Formula
+formula_by Mux c = mux_formula
+formula_by _ c = Const []
+
+-- the formula of the taint of a cell's one output
+abbrev pub select_formula : Cell → Formula
+select_formula c = formula_by c.kind c

@@ -1,0 +1,84 @@
+// The shadow of a cell that selects.
+ghost use Rattle.std.specs.Prelude.{◌≡◌, true, ◌<◌, length, map, List, [], ◌∷◌, Some, IfOk};
+ghost use Rattle.cif_defs.specs.Words.{Word};
+ghost use Rattle.cif_defs.specs.Fitted.{IsFitted, operand_widths};
+ghost use Rattle.cif_defs.specs.Table.{outputs_of};
+ghost use Rattle.cif_term.specs.Formulas.{value_of, width_of};
+ghost use Rattle.cif_term.specs.CellTaints.{taint_word};
+ghost use Rattle.cif_term.specs.TermView.{formula_of};
+ghost use Rattle.rule_select.specs.Selects.{is_select, select_formula};
+
+use crate::mux::mux_term;
+use cif_bits::NoMemory;
+use cif_cells::Cell;
+use cif_term::{Shadow, Term};
+use std::alloc::Global;
+use std::marker::Model;
+
+/// The term of the one output of a cell.
+pub fn select_term(alloc: Global, cell: &Cell) -> Result<Term, NoMemory>
+    requires { is_select cell.now.kind ≡ true }
+    ensures { IfOk result (λ t. formula_of t ≡ select_formula cell.now) }
+{
+    match cell.kind() {
+        _ => Ok(mux_term(alloc)?),
+    }
+}
+
+/// A list of one term.
+pub fn single(alloc: Global, term: Term) -> Result<Vec<Term>, NoMemory>
+    ensures { IfOk result (λ ts. ts.items ≡ term ∷ []) }
+{
+    let mut terms = Vec::with_capacity(alloc, 1)?;
+    if terms.push(term).is_err() {
+        return Err(NoMemory);
+    }
+    Ok(terms)
+}
+
+/// The shadow logic of a cell that selects: a term for its output.
+pub struct SelectShadow<'a> {
+    cell: &'a Cell,
+}
+
+impl<'a> Model for SelectShadow<'a> {
+    ghost use Rattle.std.specs.Prelude.{◌≡◌, true};
+    ghost use Rattle.cif_defs.specs.Cells.{Cell as CellData};
+    ghost use Rattle.cif_defs.specs.Fitted.{IsFitted};
+    ghost use Rattle.rule_select.specs.Selects.{is_select};
+
+    ghost Value = { CellData };
+
+    ghost view = { λ s. s.cell.now };
+
+    ghost invariant = { λ s. (is_select s.cell.now.kind ≡ true) × IsFitted s.cell.now };
+}
+
+impl<'a> SelectShadow<'a> {
+    /// The shadow of a cell.
+    pub fn of(cell: &'a Cell) -> SelectShadow<'a>
+        requires covered { is_select cell.now.kind ≡ true }
+        requires fitted { IsFitted cell.now }
+        ensures { result ≡ cell.now }
+    {
+        SelectShadow { cell }
+    }
+}
+
+impl<'a> Shadow for SelectShadow<'a> {
+    ghost widths = { operand_widths };
+
+    ghost count = { λ c. length (outputs_of c.kind) };
+
+    ghost meant = { taint_word };
+
+    fn outputs(&self) -> u32 {
+        let _cell = &self.cell;
+        1
+    }
+
+    fn term(&self, alloc: Global, output: u32) -> Result<Term, NoMemory> {
+        let cell = self.cell;
+        Ok(select_term(alloc, cell)?)
+    }
+}
