@@ -29,7 +29,7 @@ pub record IsAddend (n i : ℕ) (v t : Word) (X : Word → Word) (single split :
 le_past : (n k : ℕ) (f g : ℕ → Bool) → n ≤ k → Le (bit (word n f) k) (bit (word n g) k)
 le_past n k f g h = λ e. let none : bit (word n f) k ≡ false = past_word n f k false h in absurd (cc)
 
-le_word : (n k : ℕ) (f g : ℕ → Bool) → (k < n → Le (f k) (g k)) → Le (bit (word n f) k) (bit (word n g) k)
+pub le_word : (n k : ℕ) (f g : ℕ → Bool) → (k < n → Le (f k) (g k)) → Le (bit (word n f) k) (bit (word n g) k)
 le_word n k f g h = elim (le_or_lt k n) [
   | inl l ↦ λ e. bit-word n g k false l ∙ h l (sym (bit-word n f k false l) ∙ e)
   | inr l ↦ le_past n k f g l
@@ -61,16 +61,16 @@ operand_addend n i signed inv v t e some l =
       let late : n ≤ sign_start n signed (length v) = grind (arith, nat_tests) in
       below_side (sign_start n signed (length v)) j upper side (omega arith) ∙ sym (below_side (sign_start n signed (length v)) j upper false (omega arith))
 
--- a word that is always the same
-pub constant_addend : (n i : ℕ) (v t w : Word) → IsAddend n i v t (λ u. w) false false (λ upper side. w)
-constant_addend n i v t w = record {
-  reached = λ upper side. (v, self_completes v t, refl);
+-- a word w that is always the same
+pub constant_addend : (n i : ℕ) (v t w : Word) (single split : Bool) (bounds : Bool → Bool → Word) → single ≡ false → ((upper side : Bool) → bounds upper side ≡ w) → IsAddend n i v t (λ u. w) single split bounds
+constant_addend n i v t w single split bounds off h = record {
+  reached = λ upper side. (v, self_completes v t, sym (h upper side));
   side = λ u. false;
-  above = λ u c k. λ e. e;
-  below = λ u c k. λ e. e;
-  same = λ u c s upper. refl;
+  above = λ u c k. λ e. sym (ap (λ (x : Word). bit x k) (h false false)) ∙ e;
+  below = λ u c k. λ e. ap (λ (x : Word). bit x k) (h true false) ∙ e;
+  same = λ u c s upper. ap (λ (x : Word). bit x i) (h upper false);
   alone = λ s. absurd (cc);
-  one_side = λ s upper side. refl;
+  one_side = λ s upper side. h upper side ∙ sym (h upper false);
 }
 
 -- ---- carries in
@@ -102,7 +102,7 @@ carry_grows c c' a a' b b' i h p q = λ e.
 
 -- ---- a bit of a sum
 
-le_both : (x low high : Bool) → Le low x → Le x high → low ≡ high → x ≡ low
+pub le_both : (x low high : Bool) → Le low x → Le x high → low ≡ high → x ≡ low
 le_both true true high p q e = refl
 le_both true false high p q e = sym (q refl) ∙ sym e
 le_both false true high p q e = p refl

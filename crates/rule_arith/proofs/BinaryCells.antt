@@ -74,7 +74,7 @@ abbrev pub RowIsExact : (ℕ → Bool → Word → Word → Word) → (ℕ → B
 RowIsExact row f = (n : ℕ) (signed : Bool) (a ta b tb : Word) → 1 ≤ n → length ta ≡ length a → length tb ≡ length b → 1 ≤ length a → 1 ≤ length b
     → IsExact n (of_two (row n signed)) (a ∷ b ∷ []) (ta ∷ tb ∷ []) (value_of (f n signed (length a) (length b)) (a ∷ b ∷ []) (ta ∷ tb ∷ []) [])
 
-y_output : (c : Cell) → outputs_of c.kind ≡ y_row ∷ [] → output_width c 0 ≡ y_width c
+pub y_output : (c : Cell) → outputs_of c.kind ≡ y_row ∷ [] → output_width c 0 ≡ y_width c
 y_output c e = ap (λ (rows : List PortRow). get_or (map (row_width c) rows) 0 0) e
 
 pub pair_taint : (c : Cell) (limit k : ℕ) (row : ℕ → Bool → Word → Word → Word) (f : ℕ → Bool → ℕ → ℕ → Formula) → IsBinary c limit → is_coarse c.kind ≡ false → ((us : List Word) → meaning c us ≡ binary row c us)

@@ -22,7 +22,7 @@ use Rattle.rule_arith.proofs.Turns.{case_turns, cases_turn, joined_bit, second_t
 pub place_push : (f : ℕ → ℕ) (n : ℕ) (u v : List ℕ) (k : ℕ) → u ≡ map f (range_with_len 0 n) → v ≡ u ++ k ∷ [] → k ≡ f n → v ≡ map f (range_with_len 0 (n + 1))
 place_push f n u v k e g h = grind (arith, map-range_with_len_more f 0 n n)
 
-joined_values : (f g : Formula) (vs ts named : List Word) (u w : Word) → value_of f vs ts named ≡ u → value_of g vs ts named ≡ w → value_of (Join f g) vs ts named ≡ u ++ w
+pub joined_values : (f g : Formula) (vs ts named : List Word) (u w : Word) → value_of f vs ts named ≡ u → value_of g vs ts named ≡ w → value_of (Join f g) vs ts named ≡ u ++ w
 joined_values f g vs ts named u w p q = ap (λ (x : Word). x ++ value_of g vs ts named) p ∙ ap (λ (x : Word). u ++ x) q
 
 -- the least word, and above it the greatest

@@ -11,3 +11,10 @@ pub mod OrderLimits
 pub mod Pairs
 pub mod Comparisons
 pub mod OrderTaints
+pub mod OwnTaints
+pub mod AluRules
+pub mod AluValues
+pub mod AluTaints
+pub mod EqualRules
+pub mod EqualTaints
+pub mod ArithTaints

@@ -14,7 +14,7 @@ use Rattle.rule_arith.proofs.Limits.{above_side, at_bound, at_bound_clear, below
 
 -- ---- the number of a word, by its highest bit
 
-one_bit : (w : Word) → length w ≡ 1 → w ≡ bit w 0 ∷ []
+pub one_bit : (w : Word) → length w ≡ 1 → w ≡ bit w 0 ∷ []
 one_bit [] h = absurd (omega arith)
 one_bit (b ∷ []) h = refl
 one_bit (b ∷ c ∷ w) h = absurd (let q : suc (suc (length w)) ≡ 1 = h in omega arith)

@@ -162,7 +162,7 @@ greater_formed c b =
 
 -- ---- $lt
 
-lt_cell : (c : Cell) → IsFitted c → c.kind ≡ Lt → IsBinary c 128
+pub lt_cell : (c : Cell) → IsFitted c → c.kind ≡ Lt → IsBinary c 128
 unfolding operands_of outputs_of width_limit
 lt_cell c h e = binary_cell c Lt 128 h e (λ q. absurd (cc)) refl refl refl refl refl
 
@@ -186,7 +186,7 @@ lt_taints c h e =
 
 -- ---- $ge
 
-ge_cell : (c : Cell) → IsFitted c → c.kind ≡ Ge → IsBinary c 128
+pub ge_cell : (c : Cell) → IsFitted c → c.kind ≡ Ge → IsBinary c 128
 unfolding operands_of outputs_of width_limit
 ge_cell c h e = binary_cell c Ge 128 h e (λ q. absurd (cc)) refl refl refl refl refl
 
@@ -210,7 +210,7 @@ ge_taints c h e =
 
 -- ---- $gt
 
-gt_cell : (c : Cell) → IsFitted c → c.kind ≡ Gt → IsBinary c 128
+pub gt_cell : (c : Cell) → IsFitted c → c.kind ≡ Gt → IsBinary c 128
 unfolding operands_of outputs_of width_limit
 gt_cell c h e = binary_cell c Gt 128 h e (λ q. absurd (cc)) refl refl refl refl refl
 
@@ -234,7 +234,7 @@ gt_taints c h e =
 
 -- ---- $le
 
-le_cell : (c : Cell) → IsFitted c → c.kind ≡ Le → IsBinary c 128
+pub le_cell : (c : Cell) → IsFitted c → c.kind ≡ Le → IsBinary c 128
 unfolding operands_of outputs_of width_limit
 le_cell c h e = binary_cell c Le 128 h e (λ q. absurd (cc)) refl refl refl refl refl
 

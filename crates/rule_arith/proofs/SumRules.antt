@@ -1,6 +1,7 @@
 -- The exact taint of $add, $sub and $neg, and of the sum of $alu.
-use Rattle.std.specs.Prelude.{ℕ, zero, suc, ◌+◌, ◌-◌, ◌<◌, ◌≤◌, ◌≡◌, nat_lt, Bool, true, false, not, ◌&&◌, ◌||◌, ◌==◌, List, [], ◌∷◌, length, pos, neg_ℤ, ◌-ℤ◌, set, refl}
+use Rattle.std.specs.Prelude.{ℕ, zero, suc, ◌+◌, ◌-◌, ◌*◌, ◌<◌, ◌≤◌, ◌≡◌, nat_lt, Bool, true, false, not, ◌&&◌, ◌||◌, ◌==◌, List, [], ◌∷◌, length, pos, neg_ℤ, ◌-ℤ◌, set, refl}
 use Rattle.std.proofs.Common.{arith, sym, ap, ◌∙◌, inl, inr}
+use Rattle.std.proofs.lemmas.Bool.Decides.{nat_tests}
 use Rattle.std.proofs.lemmas.Int.{ints}
 use Rattle.cif_defs.specs.Completions.{AllComplete, CanDiffer, Completes, IsExact, of_one, of_two}
 use Rattle.cif_defs.specs.Meanings.{add_word, alu_operand, alu_sum_word, neg_word, sub_word}
@@ -10,9 +11,9 @@ use Rattle.cif_defs.proofs.Exact.{cons_complete, nil_complete}
 use Rattle.cif_defs.proofs.Numbers.{int_word_of-difference, number_zero, word-same, word-suc}
 use Rattle.cif_defs.proofs.SumExact.{add_is_sum, alu_is_sum, operand_bit, sub_is_sum}
 use Rattle.cif_defs.proofs.Sums.{bit-ripple, carry, self_completes, sum_bit, word_of-sum}
-use Rattle.rule_arith.specs.Bounds.{sign_start}
+use Rattle.rule_arith.specs.Bounds.{is_upper, sign_start}
 use Rattle.rule_arith.proofs.Addends.{IsAddend, IsCarry, IsSumOf, constant_addend, constant_carry, operand_addend, sum_spread}
-use Rattle.rule_arith.proofs.Limits.{at_bound, bit-limit, bound_word, limit, limit_completes}
+use Rattle.rule_arith.proofs.Limits.{at_bound, at_bound_clear, bit-limit, bound_word, limit, limit_completes}
 use Rattle.rule_arith.proofs.Turns.{cases_turn, spread_exact}
 
 -- ---- complements
@@ -135,5 +136,77 @@ sub_exact n signed a ta b tb w e f some_a some_b q =
 
 -- ---- $neg
 
-one_word : ℕ → Word
-one_word n = flag_word n true
+-- the sum of two words of n bits and a carry, bit by bit
+pub sum_bits : (n : ℕ) (c : Bool) (a b : Word) (i : ℕ) → length a ≡ n → length b ≡ n → i < n → bit (word_of n (number a + number b + bit_value c)) i ≡ sum_bit c a b i
+sum_bits n c a b i e f h =
+    let long : length b ≡ length a = f ∙ sym e in
+    ap (λ k. bit (word_of k (number a + number b + bit_value c)) i) (sym e) ∙ ap (λ (w : Word). bit w i) (word_of-sum a b c long) ∙ bit-ripple c a b i long (omega arith)
+
+none_of : (n : ℕ) → number (zeros n) ≡ 0
+none_of n = number_zero (zeros n) (λ i. elim (le_or_lt i n) [
+  | inl l ↦ bit-word n (λ k. false) i false l
+  | inr l ↦ past_word n (λ k. false) i false l
+])
+
+rest_clear : (n : ℕ) (b : Bool) → word n (λ i. suc i == 0 && b) ≡ zeros n
+rest_clear n b = word-same n _ _ (λ i h. let later : (suc i == 0) ≡ false = grind (arith, nat_tests) in ap (λ x. x && b) later)
+
+pub number-flag : (n : ℕ) (b : Bool) → 1 ≤ n → number (flag_word n b) ≡ bit_value b
+number-flag zero b h = absurd (omega arith)
+number-flag (suc n) b h =
+    let parts : number (flag_word (suc n) b) ≡ bit_value b + 2 * number (word n (λ i. suc i == 0 && b)) = ap number (word-suc n (λ i. i == 0 && b)) in
+    let rest : number (word n (λ i. suc i == 0 && b)) ≡ 0 = ap number (rest_clear n b) ∙ none_of n in
+    omega arith
+
+complement_word : (n : ℕ) (signed : Bool) (w : Word) → word n (λ i. not (extended_bit signed i w)) ≡ alu_operand n signed true w
+complement_word n signed w = word-same n _ _ (λ i h. not_xor (extended_bit signed i w))
+
+neg_is_sum : (n : ℕ) (signed : Bool) (u : Word) (i : ℕ) → i < n → bit (neg_word n signed u) i ≡ sum_bit false (alu_operand n signed true u) (flag_word n true) i
+neg_is_sum n signed u i h =
+    let none : number (zeros n) ≡ 0 = none_of n in
+    let minus : neg_ℤ (pos (number (extend n signed u))) ≡ pos (number (zeros n)) -ℤ pos (number (extend n signed u)) = omega (arith, ints) in
+    let one : number (flag_word n true) ≡ 1 = number-flag n true (omega arith) in
+    let same : number (word n (λ i. not (extended_bit signed i u))) ≡ number (alu_operand n signed true u) = ap number (complement_word n signed u) in
+    let sum : number (zeros n) + number (word n (λ i. not (extended_bit signed i u))) + 1 ≡ number (alu_operand n signed true u) + number (flag_word n true) + 0 = omega arith in
+    ap (λ z. bit (int_word_of n z) i) minus ∙ ap (λ (w : Word). bit w i) (int_word_of-difference n (λ k. false) (λ k. extended_bit signed k u))
+    ∙ ap (λ x. bit (word_of n x) i) sum ∙ sum_bits n false (alu_operand n signed true u) (flag_word n true) i (length-word n _) (length-word n _) h
+
+own_sum : (i : ℕ) (row : Word → Word) (a ta : Word) (X : Word → Word) (w : Word) → ((u : Word) → bit (row u) i ≡ sum_bit false (X u) w i)
+    → IsSumOf i (of_one row i) (a ∷ []) (ta ∷ []) a ta [] [] [] [] X (λ u. w) (λ u. false) false
+own_sum i row a ta X w h = record {
+  make = λ u x z. u ∷ [];
+  complete = λ u x z p q r. cons_complete a [] ta [] u [] p nil_complete;
+  value = λ u x z. h u ∙ xor_none _;
+  first = λ us. operand us 0;
+  second = λ us. [];
+  carried = λ us. [];
+  first_completes = λ us d. d.each 0;
+  second_completes = λ us d. self_completes [] [];
+  carried_completes = λ us d. self_completes [] [];
+  split = λ us d. h (operand us 0) ∙ xor_none _;
+}
+
+-- the bounds of the number 1, which is untainted
+abbrev pub unit_bound : ℕ → Bool → Bool → Word
+unit_bound n upper side = word n (λ i. at_bound (is_upper n upper side i) (i == 0 && true) false)
+
+unit_is : (n : ℕ) (upper side : Bool) → unit_bound n upper side ≡ flag_word n true
+unit_is n upper side = word-same n _ _ (λ i h. at_bound_clear (is_upper n upper side i) (i == 0 && true) false refl)
+
+and_false : (b : Bool) → (b && false) ≡ false
+and_false true = refl
+and_false false = refl
+
+abbrev pub own_rule : ℕ → Bool → Word → Word → ℕ → Bool
+own_rule n signed a ta i =
+    (stands_single n signed a ta i || (nat_lt i n && false))
+    || cases_turn (has_sides n signed a) (nat_lt n n) (λ upper p q. sum_bit false (bound_word n signed true a ta upper p) (unit_bound n upper q) i)
+
+pub neg_exact : (n : ℕ) (signed : Bool) (a ta w : Word) → length ta ≡ length a → 1 ≤ length a → w ≡ word n (own_rule n signed a ta) → IsExact n (of_one (neg_word n signed)) (a ∷ []) (ta ∷ []) w
+neg_exact n signed a ta w e some q =
+    spread_exact n (of_one (neg_word n signed)) (a ∷ []) (ta ∷ []) false (λ i. stands_single n signed a ta i || (nat_lt i n && false)) (has_sides n signed a) (nat_lt n n)
+    (λ i upper p q. sum_bit false (bound_word n signed true a ta upper p) (unit_bound n upper q) i) w
+    (λ i l. sum_spread n i (of_one (neg_word n signed) i) (a ∷ []) (ta ∷ []) a ta [] [] [] [] (alu_operand n signed true) (λ u. flag_word n true) (λ u. false) false _ _ _ _ _ _ _
+      (operand_addend n i signed true a ta e some l) (constant_addend n i [] [] (flag_word n true) (nat_lt i n && false) (nat_lt n n) (unit_bound n) (and_false (nat_lt i n)) (unit_is n)) (constant_carry [] [] false)
+      (own_sum i (neg_word n signed) a ta (alu_operand n signed true) (flag_word n true) (λ u. neg_is_sum n signed u i l)))
+    q

@@ -98,7 +98,7 @@ add_value n signed a ta b tb e f some_a some_b =
 add_row_exact : RowIsExact add_word add_taint
 add_row_exact n signed a ta b tb some e f some_a some_b = add_exact n signed a ta b tb _ e f some_a some_b (add_value n signed a ta b tb e f some_a some_b)
 
-add_cell : (c : Cell) → IsFitted c → c.kind ≡ Add → IsBinary c 128
+pub add_cell : (c : Cell) → IsFitted c → c.kind ≡ Add → IsBinary c 128
 unfolding operands_of outputs_of width_limit
 add_cell c h e = binary_cell c Add 128 h e (λ q. absurd (cc)) refl refl refl refl refl
 
@@ -134,7 +134,7 @@ sub_value n signed a ta b tb e f some_a some_b =
 sub_row_exact : RowIsExact sub_word sub_taint
 sub_row_exact n signed a ta b tb some e f some_a some_b = sub_exact n signed a ta b tb _ e f some_a some_b (sub_value n signed a ta b tb e f some_a some_b)
 
-sub_cell : (c : Cell) → IsFitted c → c.kind ≡ Sub → IsBinary c 128
+pub sub_cell : (c : Cell) → IsFitted c → c.kind ≡ Sub → IsBinary c 128
 unfolding operands_of outputs_of width_limit
 sub_cell c h e = binary_cell c Sub 128 h e (λ q. absurd (cc)) refl refl refl refl refl
 

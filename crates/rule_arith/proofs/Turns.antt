@@ -136,7 +136,7 @@ spread_differs f vs ts turned single first second g s h = elim (or_on single (ca
   | inr x ↦ (let t = cases_turned first second g x in two_reached f vs ts turned (g t.u1 t.a1 t.b1) (g t.u2 t.a2 t.b2) (s.reached t.u1 t.a1 t.b1) (s.reached t.u2 t.a2 t.b2) t.differ)
 ]
 
-spread_value : (f : List Word → Bool) (vs ts us : List Word) (turned single first second : Bool) (g : Bool → Bool → Bool → Bool) → IsSpread f vs ts turned single first second g
+pub spread_value : (f : List Word → Bool) (vs ts us : List Word) (turned single first second : Bool) (g : Bool → Bool → Bool → Bool) → IsSpread f vs ts turned single first second g
     → (single || cases_turn first second g) ≡ false → AllComplete vs ts us → f us ≡ xor (g false false false) turned
 spread_value f vs ts us turned single first second g s h c =
     let off = or_off single (cases_turn first second g) h in

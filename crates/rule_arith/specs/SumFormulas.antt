@@ -1,12 +1,12 @@
 -- The taint of sums as a formula over the operands of a cell.
 use Rattle.std.specs.Prelude.{ℕ, nat_lt, Bool, Option, Some, None}
-use Rattle.cif_defs.specs.Cells.{Cell, both_signed, number_of, y_width}
+use Rattle.cif_defs.specs.Cells.{Cell, a_signed, both_signed, number_of, y_width}
 use Rattle.cif_defs.specs.declared.kinds.Param.TheVariants.{AWidth, BWidth}
 use Rattle.cif_term.specs.declared.ops.Op2.TheVariants.{Add, Or}
 use Rattle.cif_term.specs.Formulas.{Formula, Bound, Two, Let}
 use Rattle.rule_arith.specs.declared.operands.Operand.{Operand}
 use Rattle.rule_arith.specs.declared.operands.Addend.{Addend}
-use Rattle.rule_arith.specs.declared.operands.Addend.TheVariants.{Plain, Complement}
+use Rattle.rule_arith.specs.declared.operands.Addend.TheVariants.{Plain, Complement, Unit as UnitAddend}
 use Rattle.rule_arith.specs.declared.sums.Sums.{Sums}
 use Rattle.rule_arith.specs.Addends.{addend_start, addend_taint, addend_word}
 use Rattle.rule_arith.specs.Bounds.{bounds, half_of, taint_below}
@@ -52,6 +52,14 @@ add_taint n signed a b = sum_taint n (Plain (first_operand signed a)) (Plain (se
 -- $sub: A - B is the complement of the sum of the complement of A and B
 abbrev pub sub_taint : ℕ → Bool → ℕ → ℕ → Formula
 sub_taint n signed a b = sum_taint n (Complement (first_operand signed a)) (Plain (second_operand signed b))
+
+-- $neg: -A is the complement of A, and 1
+abbrev pub neg_taint : ℕ → Bool → ℕ → Formula
+neg_taint n signed a = sum_taint n (Complement (first_operand signed a)) UnitAddend
+
+-- a formula over the width and the sign of a cell's one operand
+abbrev pub of_own : (ℕ → Bool → ℕ → Formula) → Cell → Formula
+of_own f c = f (y_width c) (a_signed c) (number_of c AWidth)
 
 -- a formula over the widths and the common sign of a cell's operands
 abbrev pub of_pair : (ℕ → Bool → ℕ → ℕ → Formula) → Cell → Formula

@@ -1,5 +1,6 @@
 // The bounds of a word with taint.
 ghost use Rattle.std.specs.Prelude.{◌≡◌, ◌≤◌, ◌<◌, ◌+◌, if◌then◌else◌, IfOk};
+ghost use Rattle.cif_term.specs.Formulas.{Let};
 ghost use Rattle.cif_term.specs.TermView.{formula_of};
 ghost use Rattle.rule_arith.specs.Addends.{addend_taint, addend_word};
 ghost use Rattle.rule_arith.specs.Bounds.{bounds, half_of, half_places, is_upper, taint_below};
@@ -82,4 +83,21 @@ pub fn bounds_of(alloc: Global, width: u32, addend: &Addend) -> Result<Term, NoM
         addend.taint(alloc, width)?,
     )?;
     Term::join(alloc, least, greatest)
+}
+
+/// `body`, inside which `Bound(1)` is the bounds of the first addend, and `Bound(0)` those of the second.
+pub fn name_bounds(
+    alloc: Global,
+    width: u32,
+    first: &Addend,
+    second: &Addend,
+    body: Term,
+) -> Result<Term, NoMemory>
+    requires { width ≤ 65536 }
+    ensures { IfOk result (λ t. formula_of t
+        ≡ Let (bounds (addend_word width first.now) (addend_taint width first.now))
+            (Let (bounds (addend_word width second.now) (addend_taint width second.now)) (formula_of body))) }
+{
+    let inner = Term::name(alloc, bounds_of(alloc, width, second)?, body)?;
+    Term::name(alloc, bounds_of(alloc, width, first)?, inner)
 }

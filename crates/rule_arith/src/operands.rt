@@ -1,8 +1,9 @@
 // Operands, and what sums add up.
-ghost use Rattle.std.specs.Prelude.{◌≡◌, ◌≤◌, IfOk};
+ghost use Rattle.std.specs.Prelude.{◌≡◌, ◌≤◌, max, IfOk};
 ghost use Rattle.cif_term.specs.TermView.{formula_of};
 ghost use Rattle.rule_arith.specs.Addends.{addend_start, addend_taint, addend_word, bit_bound, operand_taint, operand_word, repeated};
 ghost use Rattle.rule_arith.specs.Bounds.{order_start, sign_start};
+ghost use Rattle.rule_arith.specs.SumFormulas.{first_operand, second_operand};
 
 use cif_bits::{Bits, NoMemory};
 use cif_term::{Op1, Op2, Term};
@@ -67,6 +68,45 @@ impl Operand {
         } else {
             width
         }
+    }
+}
+
+/// The operands A and B of a cell: how many bits each has, and whether both are signed.
+#[derive(Clone, Copy)]
+pub struct Pair {
+    pub signed: bool,
+    pub first_bits: u32,
+    pub second_bits: u32,
+}
+
+impl Pair {
+    /// A.
+    pub fn first(&self) -> Operand
+        ensures { result ≡ first_operand self.now.signed self.now.first_bits }
+    {
+        Operand {
+            port: 0,
+            bits: self.first_bits,
+            signed: self.signed,
+        }
+    }
+
+    /// B.
+    pub fn second(&self) -> Operand
+        ensures { result ≡ second_operand self.now.signed self.now.second_bits }
+    {
+        Operand {
+            port: 1,
+            bits: self.second_bits,
+            signed: self.signed,
+        }
+    }
+
+    /// How many bits the wider one has.
+    pub fn widest(&self) -> u32
+        ensures { result ≡ max self.now.first_bits self.now.second_bits }
+    {
+        self.first_bits.max(self.second_bits)
     }
 }
 

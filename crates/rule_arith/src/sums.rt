@@ -2,10 +2,10 @@
 ghost use Rattle.std.specs.Prelude.{◌≡◌, ◌≤◌, nat_lt, IfOk};
 ghost use Rattle.cif_term.specs.TermView.{formula_of};
 ghost use Rattle.rule_arith.specs.Cases.{case_taint, joined, second_taint};
-ghost use Rattle.rule_arith.specs.SumFormulas.{sum_at, sum_taint, sums_taint};
+ghost use Rattle.rule_arith.specs.SumFormulas.{add_taint, neg_taint, sub_taint, sum_at, sum_taint, sums_taint};
 
-use crate::bounds::{bounds_of, take_below, take_half};
-use crate::operands::Addend;
+use crate::bounds::{name_bounds, take_below, take_half};
+use crate::operands::{Addend, Operand, Pair};
 use cif_bits::NoMemory;
 use cif_term::{Op2, Term};
 use std::alloc::Global;
@@ -166,6 +166,45 @@ pub fn sum_term(
     )?;
     let own = Term::two(alloc, Op2::Or, first_taint, second_taint)?;
     let taint = Term::two(alloc, Op2::Or, own, sums.cases(alloc)?)?;
-    let inner = Term::name(alloc, bounds_of(alloc, width, second)?, taint)?;
-    Term::name(alloc, bounds_of(alloc, width, first)?, inner)
+    name_bounds(alloc, width, first, second, taint)
+}
+
+/// The taint of `$add`.
+pub fn add_term(alloc: Global, width: u32, pair: &Pair) -> Result<Term, NoMemory>
+    requires { width ≤ 65536 }
+    ensures { IfOk result
+        (λ t. formula_of t ≡ add_taint width pair.now.signed pair.now.first_bits pair.now.second_bits) }
+{
+    let first = Addend::Plain(pair.first());
+    let second = Addend::Plain(pair.second());
+    Ok(sum_term(alloc, width, &first, &second)?)
+}
+
+/// The taint of `$sub`.
+pub fn sub_term(alloc: Global, width: u32, pair: &Pair) -> Result<Term, NoMemory>
+    requires { width ≤ 65536 }
+    ensures { IfOk result
+        (λ t. formula_of t ≡ sub_taint width pair.now.signed pair.now.first_bits pair.now.second_bits) }
+{
+    let first = Addend::Complement(pair.first());
+    let second = Addend::Plain(pair.second());
+    Ok(sum_term(alloc, width, &first, &second)?)
+}
+
+/// The taint of `$neg` of an operand of `bits` bits.
+pub fn neg_term(alloc: Global, width: u32, signed: bool, bits: u32) -> Result<Term, NoMemory>
+    requires { width ≤ 65536 }
+    ensures { IfOk result (λ t. formula_of t ≡ neg_taint width signed bits) }
+{
+    let operand = Operand {
+        port: 0,
+        bits,
+        signed,
+    };
+    Ok(sum_term(
+        alloc,
+        width,
+        &Addend::Complement(operand),
+        &Addend::Unit,
+    )?)
 }
