@@ -2,5 +2,17 @@ pub mod Tests
 pub mod Operands
 pub mod ChoiceLaws
 pub mod ChoiceTerms
+pub mod Windows
+pub mod Steps
+pub mod Places
+pub mod MoveReads
+pub mod MoveBits
+pub mod Leaves
+pub mod MoveTrees
+pub mod ShiftBits
+pub mod ShiftCells
+pub mod ShiftLaws
+pub mod ShiftKinds
+pub mod Trees
 pub mod MuxLaws
 pub mod SelectLaws

@@ -1,3 +1,7 @@
 pub mod Choices
+pub mod Windows
+pub mod Trees
+pub mod Moves
+pub mod Shifts
 pub mod Mux
 pub mod Selects
