@@ -10,9 +10,15 @@ pub mod MoveBits
 pub mod Leaves
 pub mod MoveTrees
 pub mod ShiftBits
+pub mod Pairs
+pub mod RisingBits
 pub mod ShiftCells
+pub mod CellFormulas
 pub mod ShiftLaws
+pub mod OffsetLaws
+pub mod OffsetBits
 pub mod ShiftKinds
+pub mod OffsetKinds
 pub mod Trees
 pub mod MuxLaws
 pub mod SelectLaws

@@ -47,7 +47,7 @@ moving_part moves q m wide leaf vs ts g j one h = record {
   ignores = λ f k o i. moved_ignores (wide j) q k (place_by moves (order_by moves m j) one) f o i;
 }
 
-pub moving_tree : (moves : Moves) (q m : ℕ) (wide : ℕ → ℕ) (leaf : ℕ → List Word → Bool) (vs ts : List Word) → IsMoving moves m wide → q < length vs → length (operand vs q) ≡ m → ((k i : ℕ) → Ignores (leaf i) q k)
+pub moving_tree : (moves : Moves) (q m : ℕ) (wide : ℕ → ℕ) (leaf : ℕ → List Word → Bool) (vs ts : List Word) → IsMoving moves m wide → q < length vs → m ≤ length (operand vs q) → ((k i : ℕ) → Ignores (leaf i) q k)
     → IsTree (move_tree moves q m wide leaf) m vs ts
 moving_tree moves q m wide leaf vs ts g there e ignores = record {
   there = there;
@@ -57,16 +57,15 @@ moving_tree moves q m wide leaf vs ts g there e ignores = record {
   part = moving_part moves q m wide leaf vs ts g;
 }
 
-pub moving_formed : (moves : Moves) (q m : ℕ) (wide : ℕ → ℕ) (leaf : ℕ → List Word → Bool) (ws : List ℕ) → IsMoving moves m wide → slice_get ws q ≡ Some m → 1 ≤ m → m ≤ 65536 → IsFormedTree (move_tree moves q m wide leaf) m ws
-moving_formed moves q m wide leaf ws g e a b = record {
-  select_width = m;
+pub moving_formed : (moves : Moves) (q m k : ℕ) (wide : ℕ → ℕ) (leaf : ℕ → List Word → Bool) (ws : List ℕ) → IsMoving moves m wide → slice_get ws q ≡ Some k → m ≤ k → k ≤ 65536 → IsFormedTree (move_tree moves q m wide leaf) m ws
+moving_formed moves q m k wide leaf ws g e h b = record {
+  select_width = k;
   select_there = e;
-  select_some = a;
   select_few = b;
-  within = g.within;
+  within = λ j l. let in_order : order_by moves m j < m = g.within j l in omega arith;
   wide_some = g.some;
   wide_few = g.few;
-  part = λ j one tainted x named h f. (g.reads j one tainted h).formed x ws named f;
+  part = λ j one tainted x named l f. (g.reads j one tainted l).formed x ws named f;
 }
 
 -- ---- shifts, whose words keep their width

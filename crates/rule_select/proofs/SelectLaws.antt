@@ -2,7 +2,7 @@
 use Rattle.std.specs.Prelude.{ℕ, zero, suc, ◌<◌, ◌≡◌, true, List, [], ◌∷◌, length, refl}
 use Rattle.std.proofs.Common.{arith, sym, ap, subst, ◌∙◌}
 use Rattle.cif_defs.specs.declared.kinds.Kind.{Kind}
-use Rattle.cif_defs.specs.declared.kinds.Kind.TheVariants.{Mux, Shl, Sshl, Shr, Sshr}
+use Rattle.cif_defs.specs.declared.kinds.Kind.TheVariants.{Mux, Shl, Sshl, Shr, Sshr, Shift, Shiftx}
 use Rattle.cif_defs.specs.Cells.{Cell}
 use Rattle.cif_defs.specs.Table.{outputs_of}
 use Rattle.cif_defs.specs.Fitted.{IsFitted}
@@ -11,6 +11,8 @@ use Rattle.cif_term.specs.CellTaints.{AreTaintsOf, IsTaintOf}
 use Rattle.rule_select.specs.Selects.{is_select, formula_by, select_formula}
 use Rattle.rule_select.specs.Mux.{mux_formula}
 use Rattle.rule_select.proofs.MuxLaws.{mux_taints}
+use Rattle.rule_select.specs.Offsets.{shift_offset, shiftx_offset}
+use Rattle.rule_select.proofs.OffsetKinds.{shift_kind_taints, shiftx_kind_taints}
 use Rattle.rule_select.specs.Shifts.{cell_shift, left_moves, right_moves, signed_moves}
 use Rattle.rule_select.proofs.ShiftKinds.{shl_taints, sshl_taints, shr_taints, sshr_taints}
 
@@ -21,6 +23,8 @@ taints_by Shl c f h e = shl_taints c f e
 taints_by Sshl c f h e = sshl_taints c f e
 taints_by Shr c f h e = shr_taints c f e
 taints_by Sshr c f h e = sshr_taints c f e
+taints_by Shift c f h e = shift_kind_taints c f e
+taints_by Shiftx c f h e = shiftx_kind_taints c f e
 taints_by _ c f h e = absurd (cc)
 
 pub select_taints : (c : Cell) → IsFitted c → is_select c.kind ≡ true → AreTaintsOf c (select_formula c ∷ [])
@@ -34,6 +38,8 @@ one_by Shl h = refl
 one_by Sshl h = refl
 one_by Shr h = refl
 one_by Sshr h = refl
+one_by Shift h = refl
+one_by Shiftx h = refl
 one_by _ h = absurd (cc)
 
 pub one_port : (c : Cell) → is_select c.kind ≡ true → length (outputs_of c.kind) ≡ 1
@@ -74,3 +80,11 @@ shr_is c e = formula_is c Shr e
 pub sshr_is : (c : Cell) → c.kind ≡ Sshr → select_formula c ≡ cell_shift (signed_moves c) c
 unfolding formula_by
 sshr_is c e = formula_is c Sshr e
+
+pub shift_is : (c : Cell) → c.kind ≡ Shift → select_formula c ≡ shift_offset c
+unfolding formula_by
+shift_is c e = formula_is c Shift e
+
+pub shiftx_is : (c : Cell) → c.kind ≡ Shiftx → select_formula c ≡ shiftx_offset c
+unfolding formula_by
+shiftx_is c e = formula_is c Shiftx e

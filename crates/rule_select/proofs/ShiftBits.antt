@@ -13,10 +13,10 @@ use Rattle.rule_select.proofs.Trees.{tree_bit}
 abbrev pub moved_by : List Word → ℕ → ℕ
 moved_by us j = number (take j (operand us 1))
 
-left_none : (i : ℕ) (f : ℕ → Bool) → f i ≡ (nat_le 0 i && f (i - 0))
+pub left_none : (i : ℕ) (f : ℕ → Bool) → f i ≡ (nat_le 0 i && f (i - 0))
 left_none i f = let t : nat_le 0 i ≡ true = grind (arith, nat_tests) in let e : i ≡ i - 0 = omega arith in ap f e ∙ sym (ap (λ b. b && f (i - 0)) t)
 
-pub left_bits : (n m : ℕ) (leaf : ℕ → List Word → Bool) (us : List Word) → length (operand us 1) ≡ m → (j : ℕ) → j ≤ m → (i : ℕ) → i < n
+pub left_bits : (n m : ℕ) (leaf : ℕ → List Word → Bool) (us : List Word) → m ≤ length (operand us 1) → (j : ℕ) → j ≤ m → (i : ℕ) → i < n
     → tree_bit (move_tree (Left n) 1 m (λ j. n) leaf) j i us ≡ (nat_le (moved_by us j) i && leaf (i - moved_by us j) us)
 unfolding place_by order_by
 left_bits n m leaf us e zero h i l = left_none i (λ k. leaf k us)
@@ -27,7 +27,7 @@ left_bits n m leaf us e (suc j) h i l =
 right_none : (n i : ℕ) (f : ℕ → Bool) → i < n → f i ≡ (nat_lt (i + 0) n && f (i + 0))
 right_none n i f h = let t : nat_lt (i + 0) n ≡ true = grind (arith, nat_tests) in let e : i ≡ i + 0 = omega arith in ap f e ∙ sym (ap (λ b. b && f (i + 0)) t)
 
-pub right_bits : (n m : ℕ) (leaf : ℕ → List Word → Bool) (us : List Word) → length (operand us 1) ≡ m → (j : ℕ) → j ≤ m → (i : ℕ) → i < n
+pub right_bits : (n m : ℕ) (leaf : ℕ → List Word → Bool) (us : List Word) → m ≤ length (operand us 1) → (j : ℕ) → j ≤ m → (i : ℕ) → i < n
     → tree_bit (move_tree (Right n) 1 m (λ j. n) leaf) j i us ≡ (nat_lt (i + moved_by us j) n && leaf (i + moved_by us j) us)
 unfolding place_by order_by
 right_bits n m leaf us e zero h i l = right_none n i (λ k. leaf k us) l
@@ -38,7 +38,7 @@ right_bits n m leaf us e (suc j) h i l =
 signed_none : (n i : ℕ) (f : ℕ → Bool) → i < n → f i ≡ f (min (i + 0) (n - 1))
 signed_none n i f h = let e : i ≡ min (i + 0) (n - 1) = omega arith in ap f e
 
-pub signed_bits : (n m : ℕ) (leaf : ℕ → List Word → Bool) (us : List Word) → length (operand us 1) ≡ m → (j : ℕ) → j ≤ m → (i : ℕ) → i < n
+pub signed_bits : (n m : ℕ) (leaf : ℕ → List Word → Bool) (us : List Word) → m ≤ length (operand us 1) → (j : ℕ) → j ≤ m → (i : ℕ) → i < n
     → tree_bit (move_tree (Signed n) 1 m (λ j. n) leaf) j i us ≡ leaf (min (i + moved_by us j) (n - 1)) us
 unfolding place_by order_by
 signed_bits n m leaf us e zero h i l = signed_none n i (λ k. leaf k us) l

@@ -118,3 +118,9 @@ shr_narrow c f e = narrow_cell c 4096 (omega arith) (shr_cell c f e)
 
 pub sshr_narrow : (c : Cell) → IsFitted c → c.kind ≡ Sshr → IsNarrow c
 sshr_narrow c f e = narrow_cell c 4096 (omega arith) (sshr_cell c f e)
+
+pub shift_narrow : (c : Cell) → IsFitted c → c.kind ≡ Shift → IsNarrow c
+shift_narrow c f e = narrow_cell c 4096 (omega arith) (shift_cell c f e)
+
+pub shiftx_narrow : (c : Cell) → IsFitted c → c.kind ≡ Shiftx → IsNarrow c
+shiftx_narrow c f e = narrow_cell c 65536 (omega arith) (shiftx_cell c f e)

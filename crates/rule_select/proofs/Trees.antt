@@ -13,7 +13,7 @@ use Rattle.cif_term.specs.Formulas.{Formula, Bound, Choose, IsFormed, value_of, 
 use Rattle.cif_term.proofs.Forms.{formed_bound, formed_choose, formed_let, formed_pick, formed_taint, formed_value, raised}
 use Rattle.cif_term.proofs.Values.{value-choose}
 use Rattle.rule_select.specs.Choices.{choice_taint, taint_choice}
-use Rattle.rule_select.specs.Trees.{select_bit, select_taint, staged, tree}
+use Rattle.rule_select.specs.Trees.{select_bit, select_taint, stage_taint, stage_value, staged, tree}
 use Rattle.rule_select.proofs.ChoiceLaws.{Ignores, IsChoice, choice_differs}
 use Rattle.rule_select.proofs.ChoiceTerms.{formed_taint_choice, value-taint_choice}
 
@@ -104,16 +104,16 @@ pub record IsNamed (t : Tree) (j : ℕ) (vs ts named : List Word) : Type 0 where
   pub value : operand named 1 ≡ word (t.wide j) (λ i. tree_bit t j i vs)
   pub taint : operand named 0 ≡ word (t.wide j) (differs (tree_bit t j) vs ts)
 
-stage_value : (t : Tree) (m j : ℕ) (x : Formula) (vs ts named : List Word) → IsTree t m vs ts → j < m → value_of x vs ts named ≡ word (t.wide j) (λ i. tree_bit t j i vs)
+value-stage : (t : Tree) (m j : ℕ) (x : Formula) (vs ts named : List Word) → IsTree t m vs ts → j < m → value_of x vs ts named ≡ word (t.wide j) (λ i. tree_bit t j i vs)
     → value_of (Choose (select_bit t.select (t.order j)) (t.parts (t.order j) false false x) (t.parts (t.order j) true false x)) vs ts named ≡ word (t.wide (suc j)) (λ i. tree_bit t (suc j) i vs)
-stage_value t m j x vs ts named g h e =
+value-stage t m j x vs ts named g h e =
     value-chosen (t.wide (suc j)) t.select (t.order j) (t.steps j false (tree_bit t j)) (t.steps j true (tree_bit t j)) (t.parts (t.order j) false false x) (t.parts (t.order j) true false x) vs ts named
     ((g.part j false h).value (tree_bit t j) x named e) ((g.part j true h).value (tree_bit t j) x named e)
 
-stage_taint : (t : Tree) (m j : ℕ) (x tx : Formula) (vs ts named : List Word) → IsTree t m vs ts → j < m → value_of x vs ts named ≡ word (t.wide j) (λ i. tree_bit t j i vs) → value_of tx vs ts named ≡ word (t.wide j) (differs (tree_bit t j) vs ts)
+taint-stage : (t : Tree) (m j : ℕ) (x tx : Formula) (vs ts named : List Word) → IsTree t m vs ts → j < m → value_of x vs ts named ≡ word (t.wide j) (λ i. tree_bit t j i vs) → value_of tx vs ts named ≡ word (t.wide j) (differs (tree_bit t j) vs ts)
     → value_of (taint_choice (select_bit t.select (t.order j)) (select_taint t.select (t.order j)) (t.parts (t.order j) false false x) (t.parts (t.order j) false true tx) (t.parts (t.order j) true false x) (t.parts (t.order j) true true tx)) vs ts named
     ≡ word (t.wide (suc j)) (differs (tree_bit t (suc j)) vs ts)
-stage_taint t m j x tx vs ts named g h e d =
+taint-stage t m j x tx vs ts named g h e d =
     let before : (i : ℕ) → Ignores (tree_bit t j i) t.select (t.order j) = tree_ignores t m vs ts g j (t.order j) (omega arith) (λ i l q. g.apart j i l h (sym q)) in
     taint-chosen (t.wide (suc j)) t.select (t.order j) (t.steps j false (tree_bit t j)) (t.steps j true (tree_bit t j))
     (t.parts (t.order j) false false x) (t.parts (t.order j) false true tx) (t.parts (t.order j) true false x) (t.parts (t.order j) true true tx) vs ts named g.there (g.within j h)
@@ -126,9 +126,11 @@ pub value-staged : (t : Tree) (m : ℕ) (vs ts : List Word) (body : Formula) (w 
 value-staged t m vs ts body w g done zero j named e n = let q : j ≡ m = omega arith in done named (record { value = n.value ∙ ap (λ k. word (t.wide k) (λ i. tree_bit t k i vs)) q; taint = n.taint ∙ ap (λ k. word (t.wide k) (differs (tree_bit t k) vs ts)) q })
 value-staged t m vs ts body w g done (suc r) j named e n =
     let h : j < m = omega arith in
-    value-staged t m vs ts body w g done r (suc j) _ (omega arith) (record {
-      value = stage_value t m j (Bound 1) vs ts named g h n.value;
-      taint = stage_taint t m j (Bound 2) (Bound 1) vs ts (value_of (Choose (select_bit t.select (t.order j)) (t.parts (t.order j) false false (Bound 1)) (t.parts (t.order j) true false (Bound 1))) vs ts named ∷ named) g h n.value n.taint;
+    let value : Word = value_of (stage_value t.select (t.order j) t.parts (Bound 1)) vs ts named in
+    let taint : Word = value_of (stage_taint t.select (t.order j) t.parts (Bound 2) (Bound 1)) vs ts (value ∷ named) in
+    value-staged t m vs ts body w g done r (suc j) (taint ∷ value ∷ named) (omega arith) (record {
+      value = value-stage t m j (Bound 1) vs ts named g h n.value;
+      taint = taint-stage t m j (Bound 2) (Bound 1) vs ts (value ∷ named) g h n.value n.taint;
     })
 
 pub value-tree : (t : Tree) (m : ℕ) (vs ts named : List Word) (x tx body : Formula) (w : Word) → IsTree t m vs ts → value_of x vs ts named ≡ word (t.wide 0) (λ i. t.leaf i vs) → ((n : Word) → value_of tx vs ts (n ∷ named) ≡ word (t.wide 0) (differs t.leaf vs ts))
@@ -146,7 +148,6 @@ stages_cost wide (suc r) j = 6 * pieces (wide (suc j)) + stages_cost wide r (suc
 pub record IsFormedTree (t : Tree) (m : ℕ) (ws : List ℕ) : Type 0 where
   pub select_width : ℕ
   pub select_there : slice_get ws t.select ≡ Some select_width
-  pub select_some : 1 ≤ select_width
   pub select_few : select_width ≤ 65536
   pub within : (j : ℕ) → j < m → t.order j < select_width
   pub wide_some : (j : ℕ) → j ≤ m → 1 ≤ t.wide j
@@ -156,11 +157,17 @@ pub record IsFormedTree (t : Tree) (m : ℕ) (ws : List ℕ) : Type 0 where
 one_inside : (k n : ℕ) → k < n → list_all (λ i. nat_lt i n) (k ∷ []) ≡ true
 one_inside k n h = grind (arith, nat_tests)
 
+pub formed_bit : (q k n : ℕ) (ws named : List ℕ) → slice_get ws q ≡ Some n → k < n → n ≤ 65536 → IsFormed (select_bit q k) ws named 1 0
+formed_bit q k n ws named e h few = formed_pick (k ∷ []) 1 (formed_value ws named q n e (omega arith) few) (one_inside k n h) refl (omega arith) (omega arith)
+
+pub formed_bit_taint : (q k n : ℕ) (ws named : List ℕ) → slice_get ws q ≡ Some n → k < n → n ≤ 65536 → IsFormed (select_taint q k) ws named 1 0
+formed_bit_taint q k n ws named e h few = formed_pick (k ∷ []) 1 (formed_taint ws named q n e (omega arith) few) (one_inside k n h) refl (omega arith) (omega arith)
+
 formed_select : (t : Tree) (m j : ℕ) (ws named : List ℕ) → IsFormedTree t m ws → j < m → IsFormed (select_bit t.select (t.order j)) ws named 1 0
-formed_select t m j ws named f h = formed_pick (t.order j ∷ []) 1 (formed_value ws named t.select f.select_width f.select_there f.select_some f.select_few) (one_inside _ _ (f.within j h)) refl (omega arith) (omega arith)
+formed_select t m j ws named f h = formed_bit t.select (t.order j) f.select_width ws named f.select_there (f.within j h) f.select_few
 
 formed_select_taint : (t : Tree) (m j : ℕ) (ws named : List ℕ) → IsFormedTree t m ws → j < m → IsFormed (select_taint t.select (t.order j)) ws named 1 0
-formed_select_taint t m j ws named f h = formed_pick (t.order j ∷ []) 1 (formed_taint ws named t.select f.select_width f.select_there f.select_some f.select_few) (one_inside _ _ (f.within j h)) refl (omega arith) (omega arith)
+formed_select_taint t m j ws named f h = formed_bit_taint t.select (t.order j) f.select_width ws named f.select_there (f.within j h) f.select_few
 
 pub formed_staged : (t : Tree) (m : ℕ) (ws : List ℕ) (body : Formula) (n k : ℕ) → IsFormedTree t m ws
     → ((named : List ℕ) → slice_get named 1 ≡ Some (t.wide m) → slice_get named 0 ≡ Some (t.wide m) → IsFormed body ws named n k)

@@ -7,6 +7,7 @@
 
 mod moves;
 mod mux;
+mod offsets;
 mod shadow;
 mod shifts;
 mod tree;
@@ -30,7 +31,7 @@ pub fn covers(kind: Kind) -> bool
 {
     matches!(
         kind,
-        Kind::Mux | Kind::Shl | Kind::Sshl | Kind::Shr | Kind::Sshr
+        Kind::Mux | Kind::Shl | Kind::Sshl | Kind::Shr | Kind::Sshr | Kind::Shift | Kind::Shiftx
     )
 }
 

@@ -88,7 +88,7 @@ fn step(width: u32, select: u32) -> u32
 }
 
 /// The word `part` of `width` bits, moved left with zeros.
-fn left(alloc: Global, width: u32, select: u32, part: Term) -> Result<Term, NoMemory>
+pub fn left(alloc: Global, width: u32, select: u32, part: Term) -> Result<Term, NoMemory>
     requires { width ≤ 65536 }
     ensures { IfOk result (λ t. formula_of t ≡ moved_left width select (formula_of part)) }
 {

@@ -22,7 +22,7 @@ pub fn width_by(cell: &Cell, param: Param) -> u32
 }
 
 /// Whether A is signed.
-fn is_signed(cell: &Cell) -> bool
+pub fn is_signed(cell: &Cell) -> bool
     ensures { result ≡ a_signed cell.now }
 {
     cell.number(Param::ASigned) == 1
@@ -36,6 +36,27 @@ fn shown_width(cell: &Cell) -> u32
     width_by(cell, Param::AWidth).max(width_by(cell, Param::YWidth))
 }
 
+/// The taint of `shown` bits of A, which has `of` bits and is extended to `width`, moved by the `by` bits of B.
+pub fn moved(
+    alloc: Global,
+    moves: Moves,
+    width: u32,
+    shown: u32,
+    of: u32,
+    signed: bool,
+    by: u32,
+) -> Result<Term, NoMemory>
+    requires wide { width ≡ wide_by moves }
+    requires limit { width ≤ 65536 }
+    requires few { shown ≤ 65536 }
+    ensures { IfOk result (λ t. formula_of t ≡ shift_formula moves shown of signed by) }
+{
+    let value = Term::extended(alloc, Term::Value(0), of, width, signed)?;
+    let taint = Term::extended(alloc, Term::Taint(0), of, width, signed)?;
+    let body = Term::pick(alloc, Term::Bound(0), places(alloc, 0, shown)?)?;
+    tree_term(alloc, moves, 1, by, value, taint, body)
+}
+
 /// The taint of a shift whose words move as `moves` says, `width` bits wide.
 fn shift_term(alloc: Global, cell: &Cell, moves: Moves, width: u32) -> Result<Term, NoMemory>
     requires narrow { IsNarrow cell.now }
@@ -43,21 +64,10 @@ fn shift_term(alloc: Global, cell: &Cell, moves: Moves, width: u32) -> Result<Te
     requires limit { width ≤ 65536 }
     ensures { IfOk result (λ t. formula_of t ≡ cell_shift moves cell.now) }
 {
-    let signed = is_signed(cell);
+    let shown = width_by(cell, Param::YWidth);
     let of = width_by(cell, Param::AWidth);
-    let value = Term::extended(alloc, Term::Value(0), of, width, signed)?;
-    let taint = Term::extended(alloc, Term::Taint(0), of, width, signed)?;
-    let shown = places(alloc, 0, width_by(cell, Param::YWidth))?;
-    let body = Term::pick(alloc, Term::Bound(0), shown)?;
-    tree_term(
-        alloc,
-        moves,
-        1,
-        width_by(cell, Param::BWidth),
-        value,
-        taint,
-        body,
-    )
+    let by = width_by(cell, Param::BWidth);
+    moved(alloc, moves, width, shown, of, is_signed(cell), by)
 }
 
 /// The taint of `$shl` and `$sshl`.

@@ -1,7 +1,7 @@
 -- Each kind has its formula.
 use Rattle.std.proofs.Common.{sym, ◌∙◌}
-use Rattle.rule_select.proofs.SelectLaws.{mux_is, shl_is, sshl_is, shr_is, sshr_is}
-use Rattle.rule_select.proofs.ShiftCells.{shl_narrow, sshl_narrow, shr_narrow, sshr_narrow}
+use Rattle.rule_select.proofs.SelectLaws.{mux_is, shl_is, sshl_is, shr_is, sshr_is, shift_is, shiftx_is}
+use Rattle.rule_select.proofs.ShiftCells.{shl_narrow, sshl_narrow, shr_narrow, sshr_narrow, shift_narrow, shiftx_narrow}
 use Rattle.rule_select.proofs.shadow.select_term.Goals as goal
 
 pub left_term-requires : goal.left_term-requires
@@ -30,3 +30,15 @@ returns-in_ok-signed_term-in-Sshr c = c.in_ok-signed_term-in-Sshr.ensures ∙ sy
 
 pub returns-in_ok-mux_term-in-Mux : goal.returns-in_ok-mux_term-in-Mux
 returns-in_ok-mux_term-in-Mux c = c.in_ok-mux_term-in-Mux.ensures ∙ sym (mux_is c.args.cell.now (sym c.in-Mux.ensures))
+
+pub either_shift_term-requires : goal.either_shift_term-requires
+either_shift_term-requires c = shift_narrow c.args.cell.now c.requires.fitted (sym c.in-Shift.ensures)
+
+pub returns-in_ok-either_shift_term-in-Shift : goal.returns-in_ok-either_shift_term-in-Shift
+returns-in_ok-either_shift_term-in-Shift c = c.in_ok-either_shift_term-in-Shift.ensures ∙ sym (shift_is c.args.cell.now (sym c.in-Shift.ensures))
+
+pub indexed_term-requires : goal.indexed_term-requires
+indexed_term-requires c = shiftx_narrow c.args.cell.now c.requires.fitted (sym c.in-Shiftx.ensures)
+
+pub returns-in_ok-indexed_term-in-Shiftx : goal.returns-in_ok-indexed_term-in-Shiftx
+returns-in_ok-indexed_term-in-Shiftx c = c.in_ok-indexed_term-in-Shiftx.ensures ∙ sym (shiftx_is c.args.cell.now (sym c.in-Shiftx.ensures))
