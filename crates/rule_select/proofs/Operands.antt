@@ -34,3 +34,23 @@ taint_by_bits c p n f rule vs ts fine e same can = word-same n rule (λ i. outpu
 
     at_bit : (i : ℕ) → i < n → rule i ≡ output_taint c p i vs ts
     at_bit i h = sym (can i h) ∙ same_differ (f i) (output_bit c p i) vs ts (λ us d. sym (same i us h)) ∙ by_test i
+
+-- completions are as long as the values
+same_lengths : (vs us : List Word) → length us ≡ length vs → ((p : ℕ) → length (operand us p) ≡ length (operand vs p)) → map length us ≡ map length vs
+same_lengths [] [] e h = refl
+same_lengths [] (u ∷ us) e h = absurd (let q : suc (length us) ≡ 0 = e in omega arith)
+same_lengths (v ∷ vs) [] e h = absurd (let q : 0 ≡ suc (length vs) = e in omega arith)
+same_lengths (v ∷ vs) (u ∷ us) e h =
+    let rest : map length us ≡ map length vs = same_lengths vs us (let q : suc (length us) ≡ suc (length vs) = e in omega arith) (λ p. h (suc p)) in
+    ap (λ k. k ∷ map length us) (h 0) ∙ ap (λ (ks : List ℕ). length v ∷ ks) rest
+
+-- the same for words of the operands' widths alone
+pub taint_of_completions : (c : Cell) (p n : ℕ) (f : ℕ → List Word → Bool) (vs ts : List Word) → is_coarse c.kind ≡ false → output_width c p ≡ n
+    → ((us : List Word) → map length us ≡ map length vs → (i : ℕ) → i < n → output_bit c p i us ≡ f i us) → word n (λ i. can_differ (f i) vs ts) ≡ taint_word c vs ts p
+taint_of_completions c p n f vs ts fine e same = word-same n (λ i. can_differ (f i) vs ts) (λ i. output_taint c p i vs ts) at_bit ∙ ap (λ k. word k (λ i. output_taint c p i vs ts)) (sym e)
+  where
+    by_test : (i : ℕ) → can_differ (output_bit c p i) vs ts ≡ output_taint c p i vs ts
+    by_test i = rw fine refl
+
+    at_bit : (i : ℕ) → i < n → can_differ (f i) vs ts ≡ output_taint c p i vs ts
+    at_bit i h = same_differ (f i) (output_bit c p i) vs ts (λ us d. sym (same us (same_lengths vs us d.as_many (λ q. (d.each q).as_long)) i h)) ∙ by_test i

@@ -2,7 +2,7 @@
 use Rattle.std.specs.Prelude.{ℕ, zero, suc, ◌<◌, ◌≡◌, true, List, [], ◌∷◌, length, refl}
 use Rattle.std.proofs.Common.{arith, sym, ap, subst, ◌∙◌}
 use Rattle.cif_defs.specs.declared.kinds.Kind.{Kind}
-use Rattle.cif_defs.specs.declared.kinds.Kind.TheVariants.{Mux}
+use Rattle.cif_defs.specs.declared.kinds.Kind.TheVariants.{Mux, Shl, Sshl, Shr, Sshr, Shift, Shiftx}
 use Rattle.cif_defs.specs.Cells.{Cell}
 use Rattle.cif_defs.specs.Table.{outputs_of}
 use Rattle.cif_defs.specs.Fitted.{IsFitted}
@@ -11,10 +11,20 @@ use Rattle.cif_term.specs.CellTaints.{AreTaintsOf, IsTaintOf}
 use Rattle.rule_select.specs.Selects.{is_select, formula_by, select_formula}
 use Rattle.rule_select.specs.Mux.{mux_formula}
 use Rattle.rule_select.proofs.MuxLaws.{mux_taints}
+use Rattle.rule_select.specs.Offsets.{shift_offset, shiftx_offset}
+use Rattle.rule_select.proofs.OffsetKinds.{shift_kind_taints, shiftx_kind_taints}
+use Rattle.rule_select.specs.Shifts.{cell_shift, left_moves, right_moves, signed_moves}
+use Rattle.rule_select.proofs.ShiftKinds.{shl_taints, sshl_taints, shr_taints, sshr_taints}
 
 taints_by : (k : Kind) (c : Cell) → IsFitted c → is_select k ≡ true → c.kind ≡ k → AreTaintsOf c (formula_by k c ∷ [])
 unfolding formula_by
 taints_by Mux c f h e = mux_taints c f e
+taints_by Shl c f h e = shl_taints c f e
+taints_by Sshl c f h e = sshl_taints c f e
+taints_by Shr c f h e = shr_taints c f e
+taints_by Sshr c f h e = sshr_taints c f e
+taints_by Shift c f h e = shift_kind_taints c f e
+taints_by Shiftx c f h e = shiftx_kind_taints c f e
 taints_by _ c f h e = absurd (cc)
 
 pub select_taints : (c : Cell) → IsFitted c → is_select c.kind ≡ true → AreTaintsOf c (select_formula c ∷ [])
@@ -24,6 +34,12 @@ select_taints c f h = taints_by c.kind c f h refl
 one_by : (k : Kind) → is_select k ≡ true → length (outputs_of k) ≡ 1
 unfolding outputs_of
 one_by Mux h = refl
+one_by Shl h = refl
+one_by Sshl h = refl
+one_by Shr h = refl
+one_by Sshr h = refl
+one_by Shift h = refl
+one_by Shiftx h = refl
 one_by _ h = absurd (cc)
 
 pub one_port : (c : Cell) → is_select c.kind ≡ true → length (outputs_of c.kind) ≡ 1
@@ -45,10 +61,30 @@ taints_are c f fs fits h e g = subst (λ (gs : List Formula). AreTaintsOf c gs) 
 formula_is : (c : Cell) (k : Kind) → c.kind ≡ k → select_formula c ≡ formula_by k c
 formula_is c k e = ap (λ x. formula_by x c) e
 
-mux_by : (k : Kind) (c : Cell) → is_select k ≡ true → formula_by k c ≡ mux_formula
+pub mux_is : (c : Cell) → c.kind ≡ Mux → select_formula c ≡ mux_formula
 unfolding formula_by
-mux_by Mux c h = refl
-mux_by _ c h = absurd (cc)
+mux_is c e = formula_is c Mux e
 
-pub mux_is : (c : Cell) → is_select c.kind ≡ true → select_formula c ≡ mux_formula
-mux_is c h = mux_by c.kind c h
+pub shl_is : (c : Cell) → c.kind ≡ Shl → select_formula c ≡ cell_shift (left_moves c) c
+unfolding formula_by
+shl_is c e = formula_is c Shl e
+
+pub sshl_is : (c : Cell) → c.kind ≡ Sshl → select_formula c ≡ cell_shift (left_moves c) c
+unfolding formula_by
+sshl_is c e = formula_is c Sshl e
+
+pub shr_is : (c : Cell) → c.kind ≡ Shr → select_formula c ≡ cell_shift (right_moves c) c
+unfolding formula_by
+shr_is c e = formula_is c Shr e
+
+pub sshr_is : (c : Cell) → c.kind ≡ Sshr → select_formula c ≡ cell_shift (signed_moves c) c
+unfolding formula_by
+sshr_is c e = formula_is c Sshr e
+
+pub shift_is : (c : Cell) → c.kind ≡ Shift → select_formula c ≡ shift_offset c
+unfolding formula_by
+shift_is c e = formula_is c Shift e
+
+pub shiftx_is : (c : Cell) → c.kind ≡ Shiftx → select_formula c ≡ shiftx_offset c
+unfolding formula_by
+shiftx_is c e = formula_is c Shiftx e

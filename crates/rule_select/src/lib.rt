@@ -5,8 +5,12 @@
 //! and of their difference.
 #![tactic(auto)]
 
+mod moves;
 mod mux;
+mod offsets;
 mod shadow;
+mod shifts;
+mod tree;
 
 ghost use Rattle.std.specs.Prelude.{◌≡◌, true, map, IfOk};
 ghost use Rattle.cif_defs.specs.Fitted.{IsFitted};
@@ -25,7 +29,10 @@ use std::alloc::Global;
 pub fn covers(kind: Kind) -> bool
     ensures { result ≡ is_select kind }
 {
-    matches!(kind, Kind::Mux)
+    matches!(
+        kind,
+        Kind::Mux | Kind::Shl | Kind::Sshl | Kind::Shr | Kind::Sshr | Kind::Shift | Kind::Shiftx
+    )
 }
 
 /// A term for each output of a cell: its value is the exact taint of the output, for all values and taints of the

@@ -9,19 +9,31 @@ ghost use Rattle.cif_term.specs.TermView.{formula_of};
 ghost use Rattle.rule_select.specs.Selects.{is_select, select_formula};
 
 use crate::mux::mux_term;
+use crate::offsets::{either_shift_term, indexed_term};
+use crate::shifts::{left_term, right_term, signed_term};
 use cif_bits::NoMemory;
 use cif_cells::Cell;
+use cif_defs::Kind;
 use cif_term::{Shadow, Term};
 use std::alloc::Global;
 use std::marker::Model;
 
 /// The term of the one output of a cell.
 pub fn select_term(alloc: Global, cell: &Cell) -> Result<Term, NoMemory>
-    requires { is_select cell.now.kind ≡ true }
+    requires covered { is_select cell.now.kind ≡ true }
+    requires fitted { IsFitted cell.now }
     ensures { IfOk result (λ t. formula_of t ≡ select_formula cell.now) }
 {
     match cell.kind() {
-        _ => Ok(mux_term(alloc)?),
+        Kind::Shl => Ok(left_term(alloc, cell)?),
+        Kind::Sshl => Ok(left_term(alloc, cell)?),
+        Kind::Shr => Ok(right_term(alloc, cell)?),
+        Kind::Sshr => Ok(signed_term(alloc, cell)?),
+        Kind::Shift => Ok(either_shift_term(alloc, cell)?),
+        Kind::Shiftx => Ok(indexed_term(alloc, cell)?),
+        Kind::Mux => Ok(mux_term(alloc)?),
+        // no other kind is covered
+        _ => Err(NoMemory),
     }
 }
 

@@ -1,0 +1,175 @@
+// How the stages of trees move words.
+ghost use Rattle.std.specs.Prelude.{◌≡◌, ◌≤◌, ◌+◌, ◌<◌, min, ◌^◌, IfOk};
+ghost use Rattle.cif_term.specs.TermView.{formula_of};
+ghost use Rattle.rule_select.specs.Windows.{low_padded, high_padded, places_from, window};
+ghost use Rattle.rule_select.specs.Moves.{step_of, moved_left, moved_right, moved_signed, signed_places, parts_by, order_by, wide_by};
+
+use cif_bits::{Bits, NoMemory};
+use cif_term::Term;
+use std::alloc::Global;
+
+/// How the stages of a tree move a word of so many bits.
+#[derive(Clone, Copy, Debug, Drop)]
+pub enum Moves {
+    /// To the left, by 2 to the select bit's place, where the select bit is 1.
+    Left(u32),
+    /// To the left where the select bit is 0.
+    Rising(u32),
+    /// To the right where the select bit is 1.
+    Right(u32),
+    /// To the right with the highest bit where the select bit is 1.
+    Signed(u32),
+}
+
+/// `part` above so many zeros.
+fn above(alloc: Global, zeros: u32, part: Term) -> Result<Term, NoMemory>
+    requires { zeros ≤ 65536 }
+    ensures { IfOk result (λ t. formula_of t ≡ low_padded zeros (formula_of part)) }
+{
+    if zeros == 0 {
+        return Ok(part);
+    }
+    let low = Bits::zeros(alloc, zeros)?;
+    Term::join(alloc, Term::Const(low), part)
+}
+
+/// `part` below so many zeros.
+fn below(alloc: Global, zeros: u32, part: Term) -> Result<Term, NoMemory>
+    requires { zeros ≤ 65536 }
+    ensures { IfOk result (λ t. formula_of t ≡ high_padded zeros (formula_of part)) }
+{
+    if zeros == 0 {
+        return Ok(part);
+    }
+    let high = Bits::zeros(alloc, zeros)?;
+    Term::join(alloc, part, Term::Const(high))
+}
+
+/// The places from `start` on, `len` of them.
+pub fn places(alloc: Global, start: u32, len: u32) -> Result<Vec<u32>, NoMemory>
+    requires { start + len ≤ 131072 }
+    ensures { IfOk result (λ v. v.items ≡ places_from start len) }
+{
+    Ok((0..len).map(|place| start + place).collect(alloc)?)
+}
+
+/// `low` zeros, above them `len` bits of `part` from bit `start` on, and above those `high` zeros.
+fn window_term(
+    alloc: Global,
+    low: u32,
+    start: u32,
+    len: u32,
+    high: u32,
+    part: Term,
+) -> Result<Term, NoMemory>
+    requires zeros { low + high ≤ 65536 }
+    requires bits { start + len ≤ 131072 }
+    ensures { IfOk result (λ t. formula_of t ≡ window low start len high (formula_of part)) }
+{
+    if len == 0 {
+        let zeros = Bits::zeros(alloc, low + high)?;
+        return Ok(Term::Const(zeros));
+    }
+    let bits = Term::pick(alloc, part, places(alloc, start, len)?)?;
+    above(alloc, low, below(alloc, high, bits)?)
+}
+
+/// How far select bit `select` moves a word of `width` bits.
+#[tactic(auto, using(crate::proofs::Steps::past_step))]
+fn step(width: u32, select: u32) -> u32
+    requires { width ≤ 65536 }
+    ensures { result ≡ step_of width select }
+{
+    if select >= 17 {
+        width
+    } else {
+        (1u32 << select).min(width)
+    }
+}
+
+/// The word `part` of `width` bits, moved left with zeros.
+pub fn left(alloc: Global, width: u32, select: u32, part: Term) -> Result<Term, NoMemory>
+    requires { width ≤ 65536 }
+    ensures { IfOk result (λ t. formula_of t ≡ moved_left width select (formula_of part)) }
+{
+    let by = step(width, select);
+    window_term(alloc, by, 0, width - by, 0, part)
+}
+
+/// The word `part` of `width` bits, moved right with zeros.
+fn right(alloc: Global, width: u32, select: u32, part: Term) -> Result<Term, NoMemory>
+    requires { width ≤ 65536 }
+    ensures { IfOk result (λ t. formula_of t ≡ moved_right width select (formula_of part)) }
+{
+    let by = step(width, select);
+    window_term(alloc, 0, by, width - by, by, part)
+}
+
+/// The places that `width` bits show which are moved right by `by` with the highest bit.
+fn shown(alloc: Global, width: u32, by: u32) -> Result<Vec<u32>, NoMemory>
+    requires { by + width ≤ 131072 }
+    ensures { IfOk result (λ v. v.items ≡ signed_places width by) }
+{
+    let last = width.saturating_sub(1);
+    Ok(
+        (0..width)
+            .map(|place| (place + by).min(last))
+            .collect(alloc)?,
+    )
+}
+
+/// The word `part` of `width` bits, moved right with its highest bit.
+fn signed(alloc: Global, width: u32, select: u32, part: Term) -> Result<Term, NoMemory>
+    requires { width ≤ 65536 }
+    ensures { IfOk result (λ t. formula_of t ≡ moved_signed width select (formula_of part)) }
+{
+    Term::pick(alloc, part, shown(alloc, width, step(width, select))?)
+}
+
+/// The part of a word, or of its taint, for a select bit at 0 or at 1.
+#[tactic(auto, unfolding(crate::specs::Moves::parts_by))]
+pub fn part(
+    alloc: Global,
+    moves: Moves,
+    select: u32,
+    one: bool,
+    tainted: bool,
+    word: Term,
+) -> Result<Term, NoMemory>
+    requires { wide_by moves ≤ 65536 }
+    ensures { IfOk result (λ t.
+        formula_of t ≡ parts_by moves select one tainted (formula_of word)) }
+{
+    match moves {
+        Moves::Left(width) => if one {
+            Ok(left(alloc, width, select, word)?)
+        } else {
+            Ok(word)
+        },
+        Moves::Rising(width) => if one {
+            Ok(word)
+        } else {
+            Ok(left(alloc, width, select, word)?)
+        },
+        Moves::Right(width) => if one {
+            Ok(right(alloc, width, select, word)?)
+        } else {
+            Ok(word)
+        },
+        Moves::Signed(width) => if one {
+            Ok(signed(alloc, width, select, word)?)
+        } else {
+            Ok(word)
+        },
+    }
+}
+
+/// The select bit of a stage.
+#[tactic(auto, unfolding(crate::specs::Moves::order_by))]
+pub fn order(moves: Moves, count: u32, stage: u32) -> u32
+    ensures { result ≡ order_by moves count stage }
+{
+    match moves {
+        _ => stage,
+    }
+}
