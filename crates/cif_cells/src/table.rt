@@ -839,6 +839,24 @@ pub fn is_built(kind: Kind) -> bool
             | Kind::Concat
             | Kind::Slice
             | Kind::Fa
+            | Kind::Neg
+            | Kind::Add
+            | Kind::Sub
+            | Kind::Alu
+            | Kind::Lt
+            | Kind::Le
+            | Kind::Ge
+            | Kind::Gt
+            | Kind::Eq
+            | Kind::Ne
+            | Kind::Eqx
+            | Kind::Nex
+            | Kind::Shl
+            | Kind::Sshl
+            | Kind::Shr
+            | Kind::Sshr
+            | Kind::Shift
+            | Kind::Shiftx
             | Kind::Mux
             | Kind::Dff
             | Kind::ScopeInfo

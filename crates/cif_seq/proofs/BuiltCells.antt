@@ -10,7 +10,7 @@ use Rattle.cif_defs.specs.Cells.{Cell}
 use Rattle.cif_defs.specs.Netlist.{cell_at, role_at, no_cell}
 use Rattle.cif_defs.specs.Loop.{is_passing}
 use Rattle.cif_defs.specs.declared.kinds.Kind.{Kind}
-use Rattle.cif_defs.specs.declared.kinds.Kind.TheVariants.{Not, Pos, And, Or, Xor, Xnor, ReduceAnd, ReduceOr, ReduceXor, ReduceXnor, ReduceBool, LogicNot, LogicAnd, LogicOr, Concat, Slice, Fa, Mux, Dff, ScopeInfo}
+use Rattle.cif_defs.specs.declared.kinds.Kind.TheVariants.{Not, Pos, And, Or, Xor, Xnor, ReduceAnd, ReduceOr, ReduceXor, ReduceXnor, ReduceBool, LogicNot, LogicAnd, LogicOr, Concat, Slice, Fa, Neg, Add, Sub, Alu, Lt, Le, Ge, Gt, Eq, Ne, Eqx, Nex, Shl, Sshl, Shr, Sshr, Shift, Shiftx, Mux, Dff, ScopeInfo}
 use Rattle.cif_defs.specs.declared.kinds.Role.TheVariants.{Combinational}
 use Rattle.cif_defs.specs.declared.raw_module.RawCell.{RawCell}
 use Rattle.cif_defs.specs.declared.raw_module.Raw.{Raw}
@@ -69,6 +69,24 @@ passing_kind LogicOr b p = refl
 passing_kind Concat b p = refl
 passing_kind Slice b p = refl
 passing_kind Fa b p = refl
+passing_kind Neg b p = refl
+passing_kind Add b p = refl
+passing_kind Sub b p = refl
+passing_kind Alu b p = refl
+passing_kind Lt b p = refl
+passing_kind Le b p = refl
+passing_kind Ge b p = refl
+passing_kind Gt b p = refl
+passing_kind Eq b p = refl
+passing_kind Ne b p = refl
+passing_kind Eqx b p = refl
+passing_kind Nex b p = refl
+passing_kind Shl b p = refl
+passing_kind Sshl b p = refl
+passing_kind Shr b p = refl
+passing_kind Sshr b p = refl
+passing_kind Shift b p = refl
+passing_kind Shiftx b p = refl
 passing_kind Mux b p = refl
 passing_kind Dff b p = absurd (cc)
 passing_kind ScopeInfo b p = absurd (cc)

@@ -14,7 +14,7 @@ use Rattle.cif_defs.specs.Stimulus.{Stimulus, start_at}
 use Rattle.cif_defs.specs.Run.{stored_by, operand_words}
 use Rattle.cif_defs.specs.TaintRun.{taint_stored_by, operand_taints}
 use Rattle.cif_defs.specs.declared.kinds.Kind.{Kind}
-use Rattle.cif_defs.specs.declared.kinds.Kind.TheVariants.{Not, Pos, And, Or, Xor, Xnor, ReduceAnd, ReduceOr, ReduceXor, ReduceXnor, ReduceBool, LogicNot, LogicAnd, LogicOr, Concat, Slice, Fa, Mux, Dff, ScopeInfo}
+use Rattle.cif_defs.specs.declared.kinds.Kind.TheVariants.{Not, Pos, And, Or, Xor, Xnor, ReduceAnd, ReduceOr, ReduceXor, ReduceXnor, ReduceBool, LogicNot, LogicAnd, LogicOr, Concat, Slice, Fa, Neg, Add, Sub, Alu, Lt, Le, Ge, Gt, Eq, Ne, Eqx, Nex, Shl, Sshl, Shr, Sshr, Shift, Shiftx, Mux, Dff, ScopeInfo}
 use Rattle.cif_defs.specs.declared.kinds.Role.{Role}
 use Rattle.cif_defs.specs.declared.kinds.Role.TheVariants.{Combinational, PlainRegister, ResetRegister, MemoryBlock, CarriedOver}
 use Rattle.cif_defs.proofs.WordLaws.{le_or_lt, length-word, bit-word, same_words}
@@ -45,6 +45,24 @@ no_state LogicOr b n = inl refl
 no_state Concat b n = inl refl
 no_state Slice b n = inl refl
 no_state Fa b n = inl refl
+no_state Neg b n = inl refl
+no_state Add b n = inl refl
+no_state Sub b n = inl refl
+no_state Alu b n = inl refl
+no_state Lt b n = inl refl
+no_state Le b n = inl refl
+no_state Ge b n = inl refl
+no_state Gt b n = inl refl
+no_state Eq b n = inl refl
+no_state Ne b n = inl refl
+no_state Eqx b n = inl refl
+no_state Nex b n = inl refl
+no_state Shl b n = inl refl
+no_state Sshl b n = inl refl
+no_state Shr b n = inl refl
+no_state Sshr b n = inl refl
+no_state Shift b n = inl refl
+no_state Shiftx b n = inl refl
 no_state Mux b n = inl refl
 no_state ScopeInfo b n = inr refl
 no_state Dff b n = absurd (n refl)

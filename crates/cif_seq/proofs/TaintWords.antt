@@ -13,7 +13,7 @@ use Rattle.cif_defs.specs.Fitted.{AllWithin, IsFitted, IsWithin, operand_widths,
 use Rattle.cif_defs.specs.Run.{src_word, words_under}
 use Rattle.cif_defs.specs.TaintRun.{taint_word as taint_bits}
 use Rattle.cif_defs.specs.declared.kinds.Kind.{Kind}
-use Rattle.cif_defs.specs.declared.kinds.Kind.TheVariants.{Not, Pos, And, Or, Xor, Xnor, ReduceAnd, ReduceOr, ReduceXor, ReduceXnor, ReduceBool, LogicNot, LogicAnd, LogicOr, Concat, Slice, Fa, Mux, Dff, ScopeInfo, Mem}
+use Rattle.cif_defs.specs.declared.kinds.Kind.TheVariants.{Not, Pos, And, Or, Xor, Xnor, ReduceAnd, ReduceOr, ReduceXor, ReduceXnor, ReduceBool, LogicNot, LogicAnd, LogicOr, Concat, Slice, Fa, Neg, Add, Sub, Alu, Lt, Le, Ge, Gt, Eq, Ne, Eqx, Nex, Shl, Sshl, Shr, Sshr, Shift, Shiftx, Mux, Dff, ScopeInfo, Mem}
 use Rattle.cif_defs.specs.declared.kinds.PortRow.{PortRow}
 use Rattle.cif_defs.specs.declared.kinds.Role.TheVariants.{Combinational}
 use Rattle.cif_defs.specs.declared.nets.Src.{Src}
@@ -24,36 +24,55 @@ use Rattle.cif_term.specs.Formulas.{Formula, Const, value_of, width_of}
 use Rattle.cif_term.specs.TermView.{formula_of}
 use Rattle.cif_term.specs.CellTaints.{AreTaintsOf, output_width, taint_word}
 use Rattle.rule_logic.specs.LogicFormulas.{covers_logic}
+use Rattle.rule_arith.specs.ArithFormulas.{covers_arith}
 use Rattle.rule_select.specs.Selects.{is_select}
 use Rattle.cif_seq.specs.CellWords.{AreNarrow, GivesExactly, taint_words}
 
 -- ---- each built combinational kind has its terms
 
-covered_by : (k : Kind) → is_built k ≡ true → role_of k ≡ Combinational → covers_logic k ≡ false → is_select k ≡ true
-covered_by Not b r h = absurd (cc)
-covered_by Pos b r h = absurd (cc)
-covered_by And b r h = absurd (cc)
-covered_by Or b r h = absurd (cc)
-covered_by Xor b r h = absurd (cc)
-covered_by Xnor b r h = absurd (cc)
-covered_by ReduceAnd b r h = absurd (cc)
-covered_by ReduceOr b r h = absurd (cc)
-covered_by ReduceXor b r h = absurd (cc)
-covered_by ReduceXnor b r h = absurd (cc)
-covered_by ReduceBool b r h = absurd (cc)
-covered_by LogicNot b r h = absurd (cc)
-covered_by LogicAnd b r h = absurd (cc)
-covered_by LogicOr b r h = absurd (cc)
-covered_by Concat b r h = absurd (cc)
-covered_by Slice b r h = absurd (cc)
-covered_by Fa b r h = absurd (cc)
-covered_by Mux b r h = refl
-covered_by Dff b r h = absurd (cc)
-covered_by ScopeInfo b r h = absurd (cc)
-covered_by _ b r h = absurd (cc)
+covered_by : (k : Kind) → is_built k ≡ true → role_of k ≡ Combinational → covers_logic k ≡ false → covers_arith k ≡ false → is_select k ≡ true
+covered_by Not b r h a = absurd (cc)
+covered_by Pos b r h a = absurd (cc)
+covered_by And b r h a = absurd (cc)
+covered_by Or b r h a = absurd (cc)
+covered_by Xor b r h a = absurd (cc)
+covered_by Xnor b r h a = absurd (cc)
+covered_by ReduceAnd b r h a = absurd (cc)
+covered_by ReduceOr b r h a = absurd (cc)
+covered_by ReduceXor b r h a = absurd (cc)
+covered_by ReduceXnor b r h a = absurd (cc)
+covered_by ReduceBool b r h a = absurd (cc)
+covered_by LogicNot b r h a = absurd (cc)
+covered_by LogicAnd b r h a = absurd (cc)
+covered_by LogicOr b r h a = absurd (cc)
+covered_by Concat b r h a = absurd (cc)
+covered_by Slice b r h a = absurd (cc)
+covered_by Fa b r h a = absurd (cc)
+covered_by Neg b r h a = absurd (cc)
+covered_by Add b r h a = absurd (cc)
+covered_by Sub b r h a = absurd (cc)
+covered_by Alu b r h a = absurd (cc)
+covered_by Lt b r h a = absurd (cc)
+covered_by Le b r h a = absurd (cc)
+covered_by Ge b r h a = absurd (cc)
+covered_by Gt b r h a = absurd (cc)
+covered_by Eq b r h a = absurd (cc)
+covered_by Ne b r h a = absurd (cc)
+covered_by Eqx b r h a = absurd (cc)
+covered_by Nex b r h a = absurd (cc)
+covered_by Shl b r h a = refl
+covered_by Sshl b r h a = refl
+covered_by Shr b r h a = refl
+covered_by Sshr b r h a = refl
+covered_by Shift b r h a = refl
+covered_by Shiftx b r h a = refl
+covered_by Mux b r h a = refl
+covered_by Dff b r h a = absurd (cc)
+covered_by ScopeInfo b r h a = absurd (cc)
+covered_by _ b r h a = absurd (cc)
 
-pub covered : (k q : Kind) (t : Bool) → is_built k ≡ true → role_of k ≡ Combinational → t ≡ covers_logic q → q ≡ k → t ≡ false → is_select k ≡ true
-covered k q t b r e f h = covered_by k b r (sym (e ∙ ap covers_logic f) ∙ h)
+pub covered : (k q : Kind) (t u : Bool) → is_built k ≡ true → role_of k ≡ Combinational → q ≡ k → t ≡ covers_logic q → t ≡ false → u ≡ covers_arith q → u ≡ false → is_select k ≡ true
+covered k q t u b r f e h g i = covered_by k b r (sym (e ∙ ap covers_logic f) ∙ h) (sym (g ∙ ap covers_arith f) ∙ i)
 
 -- ---- the values of terms
 

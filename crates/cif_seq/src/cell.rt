@@ -51,8 +51,11 @@ fn taint_terms(alloc: Global, cell: &Cell) -> Result<Vec<Term>, NoMemory>
     requires fitted { IsFitted cell.now }
     ensures { IfOk result (λ ts. AreTaintsOf cell.now (map formula_of ts.items)) }
 {
-    if rule_logic::covers(cell.kind()) {
+    let kind = cell.kind();
+    if rule_logic::covers(kind) {
         rule_logic::taint_terms(alloc, cell)
+    } else if rule_arith::covers(kind) {
+        rule_arith::taint_terms(alloc, cell)
     } else {
         rule_select::taint_terms(alloc, cell)
     }
