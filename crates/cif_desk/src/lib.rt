@@ -8,6 +8,8 @@ mod files;
 mod refusal;
 mod stop;
 #[cfg(test)]
+mod cell_tests;
+#[cfg(test)]
 mod tests;
 mod text;
 

@@ -48,14 +48,14 @@ fn words_of(alloc: Global, line: &str) -> Result<Vec<String>, AllocError> {
 
 /// What a command line has to leave.
 #[derive(Drop)]
-struct Wanted<'a> {
-    status: u8,
-    out: &'a str,
-    err: &'a str,
+pub struct Wanted<'a> {
+    pub status: u8,
+    pub out: &'a str,
+    pub err: &'a str,
 }
 
 /// A command line over files ends as is wanted.
-fn assert_ends(
+pub fn assert_ends(
     rt: &impl Abort,
     alloc: Global,
     line: &str,
@@ -74,7 +74,7 @@ fn assert_ends(
 }
 
 /// A netlist is refused with this line.
-fn assert_refused(rt: &impl Abort, alloc: Global, net: &str, line: &str) -> Result<(), Fail> {
+pub fn assert_refused(rt: &impl Abort, alloc: Global, net: &str, line: &str) -> Result<(), Fail> {
     let wanted = Wanted {
         status: 2,
         out: "",
