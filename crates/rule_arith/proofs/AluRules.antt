@@ -1,21 +1,21 @@
 -- The exact taint of the outputs of $alu: by the cases of its inverted operand.
-use Rattle.std.specs.Prelude.{ℕ, zero, suc, ◌+◌, ◌-◌, ◌*◌, ◌^◌, ◌<◌, ◌≤◌, ◌≡◌, ◌≢◌, ◌⊎◌, nat_le, nat_lt, Bool, true, false, not, ◌&&◌, ◌||◌, if◌then◌else◌, List, [], ◌∷◌, length, set, refl}
+use Rattle.std.specs.Prelude.{ℕ, zero, suc, ◌+◌, ◌*◌, ◌^◌, ◌<◌, ◌≤◌, ◌≡◌, ◌≢◌, ◌⊎◌, nat_le, nat_lt, Bool, true, false, ◌||◌, if◌then◌else◌, List, [], ◌∷◌, length, set, refl}
 use Rattle.std.proofs.Common.{add-one, arith, sym, ap, ◌∙◌, inl, inr, subst}
 use Rattle.std.proofs.Math.Nat.{pow-succ'}
 use Rattle.std.proofs.lemmas.Bool.Decides.{nat_tests}
 use Rattle.std.proofs.lemmas.List.{get_or-set_same}
 use Rattle.cif_defs.specs.Completions.{AllComplete, CanDiffer, Completes, IsExact}
 use Rattle.cif_defs.specs.Meanings.{alu_carry_word, alu_operand, alu_sum, alu_sum_word, alu_xor_word}
-use Rattle.cif_defs.specs.Words.{Word, bit, bit_value, extend, extended_bit, majority, number, operand, word, word_of, xor}
-use Rattle.cif_defs.proofs.WordLaws.{bit-word, length-word, le_or_lt, past_word}
-use Rattle.cif_defs.proofs.Exact.{bit-extend, cons_complete, extended_filled, extended_same, filled, filled_completes, nil_complete, true_by}
+use Rattle.cif_defs.specs.Words.{Word, bit, bit_value, extend, extended_bit, majority, number, operand, word, xor}
+use Rattle.cif_defs.proofs.WordLaws.{bit-word, length-word}
+use Rattle.cif_defs.proofs.Exact.{cons_complete, extended_filled, extended_same, filled, filled_completes, nil_complete, true_by}
 use Rattle.cif_defs.proofs.Numbers.{Le, word-same}
 use Rattle.cif_defs.proofs.Split.{CasesDiffer, IsTaintedAt, fixed, split, split_back}
 use Rattle.cif_defs.proofs.SumExact.{alu_is_sum, operand_bit}
 use Rattle.cif_defs.proofs.Sums.{carry, carry_local, ripple, self_completes, sum_bit}
 use Rattle.cif_defs.proofs.WordNumbers.{number_below}
 use Rattle.rule_arith.specs.Bounds.{is_upper, sign_start}
-use Rattle.rule_arith.proofs.Addends.{IsAddend, IsCarry, IsSumOf, carry_grows, le_both, le_word, operand_addend, sum_spread}
+use Rattle.rule_arith.proofs.Addends.{IsCarry, IsSumOf, carry_grows, le_both, le_word, operand_addend, sum_spread}
 use Rattle.rule_arith.proofs.Limits.{at_bound, at_bound_clear, at_bound_tainted, bit-limit, bound_word, greatest, least, limit, limit_bounds, limit_completes}
 use Rattle.rule_arith.proofs.SumRules.{has_sides, stands_single, xor_none}
 use Rattle.rule_arith.proofs.Turns.{IsSpread, cases_turn, joined_bit, or_off, or_on, spread_differs, spread_same, spread_value, xor_cancel, xor_off, xor_on}
@@ -45,39 +45,39 @@ abbrev pub cases_rule : Bool → Bool → Bool → (Bool → Bool → Bool → B
 cases_rule single first second g0 g1 = single || joined_bit (cases_turn first second g0) (cases_turn first second g1) (g0 false false false) (g1 false false false)
 
 module _ (f : List Word → Bool) (p j : ℕ) (vs ts : List Word) (turned single first second : Bool) (g0 g1 : Bool → Bool → Bool → Bool)
-  (h : IsTaintedAt p j vs ts)
-  (s0 : IsSpread f (fixed false p j vs) (fixed false p j ts) turned single first second g0)
-  (s1 : IsSpread f (fixed true p j vs) (fixed false p j ts) turned single first second g1)
+    (h : IsTaintedAt p j vs ts)
+    (s0 : IsSpread f (fixed false p j vs) (fixed false p j ts) turned single first second g0)
+    (s1 : IsSpread f (fixed true p j vs) (fixed false p j ts) turned single first second g1)
   where
-  two_cases_only : cases_rule single first second g0 g1 ≡ true → CanDiffer f vs ts
-  two_cases_only q = elim (joined_parts single (cases_turn first second g0) (cases_turn first second g1) (g0 false false false) (g1 false false false) q) [
-    | inl x ↦ split_back f p j vs ts h (inl (spread_differs f _ _ turned single first second g0 s0 x))
-    | inr r ↦ elim r [
-      | inl x ↦ split_back f p j vs ts h (inr (inl (spread_differs f _ _ turned single first second g1 s1 x)))
-      | inr n ↦ (let u = s0.reached false false false in
-          let w = s1.reached false false false in
-          split_back f p j vs ts h (inr (inr (record { zero_case = u.0; one_case = w.0; zero_completes = u.1; one_completes = w.1; differ = λ e. n (xor_cancel _ _ turned (sym u.2 ∙ e ∙ w.2)) }))))
+    two_cases_only : cases_rule single first second g0 g1 ≡ true → CanDiffer f vs ts
+    two_cases_only q = elim (joined_parts single (cases_turn first second g0) (cases_turn first second g1) (g0 false false false) (g1 false false false) q) [
+      | inl x ↦ split_back f p j vs ts h (inl (spread_differs f _ _ turned single first second g0 s0 x))
+      | inr r ↦ elim r [
+        | inl x ↦ split_back f p j vs ts h (inr (inl (spread_differs f _ _ turned single first second g1 s1 x)))
+        | inr n ↦ (let u = s0.reached false false false in
+            let w = s1.reached false false false in
+            split_back f p j vs ts h (inr (inr (record { zero_case = u.0; one_case = w.0; zero_completes = u.1; one_completes = w.1; differ = λ e. n (xor_cancel _ _ turned (sym u.2 ∙ e ∙ w.2)) }))))
+      ]
     ]
-  ]
 
-  values_agree : NoneJoined single (cases_turn first second g0) (cases_turn first second g1) (g0 false false false) (g1 false false false) → CasesDiffer f p j vs ts → ⊥
-  values_agree none c =
-      c.differ (spread_value f _ _ c.zero_case turned single first second g0 s0 none.first c.zero_completes ∙ ap (λ b. xor b turned) none.values
-      ∙ sym (spread_value f _ _ c.one_case turned single first second g1 s1 none.second c.one_completes))
+    values_agree : NoneJoined single (cases_turn first second g0) (cases_turn first second g1) (g0 false false false) (g1 false false false) → CasesDiffer f p j vs ts → ⊥
+    values_agree none c =
+        c.differ (spread_value f _ _ c.zero_case turned single first second g0 s0 none.first c.zero_completes ∙ ap (λ b. xor b turned) none.values
+        ∙ sym (spread_value f _ _ c.one_case turned single first second g1 s1 none.second c.one_completes))
 
-  no_case : cases_rule single first second g0 g1 ≡ false → CanDiffer f (fixed false p j vs) (fixed false p j ts) ⊎ CanDiffer f (fixed true p j vs) (fixed false p j ts) ⊎ CasesDiffer f p j vs ts → ⊥
-  no_case off (inl c) =
-      let none = none_joined single (cases_turn first second g0) (cases_turn first second g1) (g0 false false false) (g1 false false false) off in
-      let x : (single || cases_turn first second g0) ≡ true = spread_same f _ _ turned single first second g0 s0 c in
-      let y : (single || cases_turn first second g0) ≡ false = none.first in absurd (cc)
-  no_case off (inr (inl c)) =
-      let none = none_joined single (cases_turn first second g0) (cases_turn first second g1) (g0 false false false) (g1 false false false) off in
-      let x : (single || cases_turn first second g1) ≡ true = spread_same f _ _ turned single first second g1 s1 c in
-      let y : (single || cases_turn first second g1) ≡ false = none.second in absurd (cc)
-  no_case off (inr (inr c)) = values_agree (none_joined single (cases_turn first second g0) (cases_turn first second g1) (g0 false false false) (g1 false false false) off) c
+    no_case : cases_rule single first second g0 g1 ≡ false → CanDiffer f (fixed false p j vs) (fixed false p j ts) ⊎ CanDiffer f (fixed true p j vs) (fixed false p j ts) ⊎ CasesDiffer f p j vs ts → ⊥
+    no_case off (inl c) =
+        let none = none_joined single (cases_turn first second g0) (cases_turn first second g1) (g0 false false false) (g1 false false false) off in
+        let x : (single || cases_turn first second g0) ≡ true = spread_same f _ _ turned single first second g0 s0 c in
+        let y : (single || cases_turn first second g0) ≡ false = none.first in absurd (cc)
+    no_case off (inr (inl c)) =
+        let none = none_joined single (cases_turn first second g0) (cases_turn first second g1) (g0 false false false) (g1 false false false) off in
+        let x : (single || cases_turn first second g1) ≡ true = spread_same f _ _ turned single first second g1 s1 c in
+        let y : (single || cases_turn first second g1) ≡ false = none.second in absurd (cc)
+    no_case off (inr (inr c)) = values_agree (none_joined single (cases_turn first second g0) (cases_turn first second g1) (g0 false false false) (g1 false false false) off) c
 
-  two_cases_all : CanDiffer f vs ts → cases_rule single first second g0 g1 ≡ true
-  two_cases_all d = true_by (cases_rule single first second g0 g1) (λ off. no_case off (split f p j vs ts h d))
+    two_cases_all : CanDiffer f vs ts → cases_rule single first second g0 g1 ≡ true
+    two_cases_all d = true_by (cases_rule single first second g0 g1) (λ off. no_case off (split f p j vs ts h d))
 
 -- ---- an output of a cell whose last of four operands has one bit: g b is what it gives where that bit is b
 
@@ -98,43 +98,43 @@ tainted_or_not true = inl refl
 tainted_or_not false = inr refl
 
 module _ (n : ℕ) (f : ℕ → List Word → Bool) (a ta b tb c tc d td : Word) (single : ℕ → Bool) (first second : Bool) (g : Bool → ℕ → Bool → Bool → Bool → Bool)
-  (one_d : length d ≡ 1) (one_td : length td ≡ 1)
-  (spreads : (i : ℕ) (e te : Word) → i < n → bit te 0 ≡ false → IsSpread (f i) (four a b c e) (four ta tb tc te) false (single i) first second (g (bit e 0) i))
+    (one_d : length d ≡ 1) (one_td : length td ≡ 1)
+    (spreads : (i : ℕ) (e te : Word) → i < n → bit te 0 ≡ false → IsSpread (f i) (four a b c e) (four ta tb tc te) false (single i) first second (g (bit e 0) i))
   where
-  bit_tainted : bit td 0 ≡ true → IsTaintedAt 3 0 (four a b c d) (four ta tb tc td)
-  bit_tainted t = record { in_values = omega arith; in_taints = omega arith; in_value = omega arith; in_taint = omega arith; tainted = t }
+    bit_tainted : bit td 0 ≡ true → IsTaintedAt 3 0 (four a b c d) (four ta tb tc td)
+    bit_tainted t = record { in_values = omega arith; in_taints = omega arith; in_value = omega arith; in_taint = omega arith; tainted = t }
 
-  case_of : (v : Bool) (i : ℕ) → i < n → IsSpread (f i) (four a b c (set d 0 v)) (four ta tb tc (set td 0 false)) false (single i) first second (g v i)
-  case_of v i l =
-      subst (λ x. IsSpread (f i) (four a b c (set d 0 v)) (four ta tb tc (set td 0 false)) false (single i) first second (g x i)) (get_or-set_same d 0 v false (omega arith))
-      (spreads i (set d 0 v) (set td 0 false) l (get_or-set_same td 0 false false (omega arith)))
+    case_of : (v : Bool) (i : ℕ) → i < n → IsSpread (f i) (four a b c (set d 0 v)) (four ta tb tc (set td 0 false)) false (single i) first second (g v i)
+    case_of v i l =
+        subst (λ x. IsSpread (f i) (four a b c (set d 0 v)) (four ta tb tc (set td 0 false)) false (single i) first second (g x i)) (get_or-set_same d 0 v false (omega arith))
+        (spreads i (set d 0 v) (set td 0 false) l (get_or-set_same td 0 false false (omega arith)))
 
-  last_only : (t : Bool) → bit td 0 ≡ t → (i : ℕ) → i < n → last_rule first second single g d td i ≡ true → CanDiffer (f i) (four a b c d) (four ta tb tc td)
-  last_only true t i l h =
-      two_cases_only (f i) 3 0 (four a b c d) (four ta tb tc td) false (single i) first second (g false i) (g true i) (bit_tainted t) (case_of false i l) (case_of true i l)
-      (sym (ap (λ x. cases_rule (single i) first second (g x i) (g (at_bound true (bit d 0) (bit td 0)) i)) (at_bound_tainted false (bit d 0) (bit td 0) t)
+    last_only : (t : Bool) → bit td 0 ≡ t → (i : ℕ) → i < n → last_rule first second single g d td i ≡ true → CanDiffer (f i) (four a b c d) (four ta tb tc td)
+    last_only true t i l h =
+        two_cases_only (f i) 3 0 (four a b c d) (four ta tb tc td) false (single i) first second (g false i) (g true i) (bit_tainted t) (case_of false i l) (case_of true i l)
+        (sym (ap (λ x. cases_rule (single i) first second (g x i) (g (at_bound true (bit d 0) (bit td 0)) i)) (at_bound_tainted false (bit d 0) (bit td 0) t)
         ∙ ap (λ x. cases_rule (single i) first second (g false i) (g x i)) (at_bound_tainted true (bit d 0) (bit td 0) t)) ∙ h)
-  last_only false t i l h =
-      spread_differs (f i) (four a b c d) (four ta tb tc td) false (single i) first second (g (bit d 0) i) (spreads i d td l t)
-      (sym (ap (λ x. cases_rule (single i) first second (g x i) (g (at_bound true (bit d 0) (bit td 0)) i)) (at_bound_clear false (bit d 0) (bit td 0) t)
+    last_only false t i l h =
+        spread_differs (f i) (four a b c d) (four ta tb tc td) false (single i) first second (g (bit d 0) i) (spreads i d td l t)
+        (sym (ap (λ x. cases_rule (single i) first second (g x i) (g (at_bound true (bit d 0) (bit td 0)) i)) (at_bound_clear false (bit d 0) (bit td 0) t)
         ∙ ap (λ x. cases_rule (single i) first second (g (bit d 0) i) (g x i)) (at_bound_clear true (bit d 0) (bit td 0) t) ∙ twice (single i) (cases_turn first second (g (bit d 0) i)) (g (bit d 0) i false false false)) ∙ h)
 
-  last_all : (t : Bool) → bit td 0 ≡ t → (i : ℕ) → i < n → CanDiffer (f i) (four a b c d) (four ta tb tc td) → last_rule first second single g d td i ≡ true
-  last_all true t i l h =
-      ap (λ x. cases_rule (single i) first second (g x i) (g (at_bound true (bit d 0) (bit td 0)) i)) (at_bound_tainted false (bit d 0) (bit td 0) t)
-      ∙ ap (λ x. cases_rule (single i) first second (g false i) (g x i)) (at_bound_tainted true (bit d 0) (bit td 0) t)
-      ∙ two_cases_all (f i) 3 0 (four a b c d) (four ta tb tc td) false (single i) first second (g false i) (g true i) (bit_tainted t) (case_of false i l) (case_of true i l) h
-  last_all false t i l h =
-      ap (λ x. cases_rule (single i) first second (g x i) (g (at_bound true (bit d 0) (bit td 0)) i)) (at_bound_clear false (bit d 0) (bit td 0) t)
-      ∙ ap (λ x. cases_rule (single i) first second (g (bit d 0) i) (g x i)) (at_bound_clear true (bit d 0) (bit td 0) t) ∙ twice (single i) (cases_turn first second (g (bit d 0) i)) (g (bit d 0) i false false false)
-      ∙ spread_same (f i) (four a b c d) (four ta tb tc td) false (single i) first second (g (bit d 0) i) (spreads i d td l t) h
+    last_all : (t : Bool) → bit td 0 ≡ t → (i : ℕ) → i < n → CanDiffer (f i) (four a b c d) (four ta tb tc td) → last_rule first second single g d td i ≡ true
+    last_all true t i l h =
+        ap (λ x. cases_rule (single i) first second (g x i) (g (at_bound true (bit d 0) (bit td 0)) i)) (at_bound_tainted false (bit d 0) (bit td 0) t)
+        ∙ ap (λ x. cases_rule (single i) first second (g false i) (g x i)) (at_bound_tainted true (bit d 0) (bit td 0) t)
+        ∙ two_cases_all (f i) 3 0 (four a b c d) (four ta tb tc td) false (single i) first second (g false i) (g true i) (bit_tainted t) (case_of false i l) (case_of true i l) h
+    last_all false t i l h =
+        ap (λ x. cases_rule (single i) first second (g x i) (g (at_bound true (bit d 0) (bit td 0)) i)) (at_bound_clear false (bit d 0) (bit td 0) t)
+        ∙ ap (λ x. cases_rule (single i) first second (g (bit d 0) i) (g x i)) (at_bound_clear true (bit d 0) (bit td 0) t) ∙ twice (single i) (cases_turn first second (g (bit d 0) i)) (g (bit d 0) i false false false)
+        ∙ spread_same (f i) (four a b c d) (four ta tb tc td) false (single i) first second (g (bit d 0) i) (spreads i d td l t) h
 
-  pub last_exact : (w : Word) → w ≡ word n (last_rule first second single g d td) → IsExact n f (four a b c d) (four ta tb tc td) w
-  last_exact w q = record {
-    as_long = ap length q ∙ length-word n _;
-    only = λ i l h. last_only (bit td 0) refl i l (sym (bit-word n (last_rule first second single g d td) i false l) ∙ ap (λ (x : Word). bit x i) (sym q) ∙ h);
-    all = λ i l h. ap (λ (x : Word). bit x i) q ∙ bit-word n (last_rule first second single g d td) i false l ∙ last_all (bit td 0) refl i l h;
-  }
+    pub last_exact : (w : Word) → w ≡ word n (last_rule first second single g d td) → IsExact n f (four a b c d) (four ta tb tc td) w
+    last_exact w q = record {
+      as_long = ap length q ∙ length-word n _;
+      only = λ i l h. last_only (bit td 0) refl i l (sym (bit-word n (last_rule first second single g d td) i false l) ∙ ap (λ (x : Word). bit x i) (sym q) ∙ h);
+      all = λ i l h. ap (λ (x : Word). bit x i) q ∙ bit-word n (last_rule first second single g d td) i false l ∙ last_all (bit td 0) refl i l h;
+    }
 
 four_complete : (a ta u b tb w c tc z d td x : Word) → Completes a ta u → Completes b tb w → Completes c tc z → Completes d td x → AllComplete (four a b c d) (four ta tb tc td) (four u w z x)
 four_complete a ta u b tb w c tc z d td x p q r s = cons_complete a _ ta _ u _ p (cons_complete b _ tb _ w _ q (cons_complete c _ tc _ z _ r (cons_complete d [] td [] x [] s nil_complete)))
@@ -182,7 +182,7 @@ pub alu_sum_exact : (n : ℕ) (signed : Bool) (a ta b tb c tc d td w : Word) →
 alu_sum_exact n signed a ta b tb c tc d td w e f k some_a some_b one_d one_td q =
     last_exact n (alu_sum_bit n signed) a ta b tb c tc d td (λ i. stands_single n signed a ta i || stands_single n signed b tb i) (has_sides n signed a) (has_sides n signed b) (alu_sums n signed a ta b tb c tc) one_d one_td
     (λ i x tx l t. sum_spread n i (alu_sum_bit n signed i) (four a b c x) (four ta tb tc tx) a ta b tb c tc (alu_operand n signed false) (alu_operand n signed (bit x 0)) (λ z. bit z 0) false _ _ _ _ _ _ _
-      (operand_addend n i signed false a ta e some_a l) (operand_addend n i signed (bit x 0) b tb f some_b l) (bit_carry c tc k) (alu_sum_of n signed i a ta b tb c tc x tx l t))
+    (operand_addend n i signed false a ta e some_a l) (operand_addend n i signed (bit x 0) b tb f some_b l) (bit_carry c tc k) (alu_sum_of n signed i a ta b tb c tc x tx l t))
     w q
 
 -- ---- the carries
@@ -218,7 +218,7 @@ number_ripple c (x ∷ a) (y ∷ b) h =
     let power : 2 ^ suc (length a) ≡ 2 * 2 ^ length a = pow-succ' 2 (length a) in
     let out : bit_value (carry c (x ∷ a) (y ∷ b) (suc (length a))) ≡ bit_value (carry m a b (length a)) = ap bit_value (carry_tail c x a y b (length a)) in
     let whole : 2 ^ suc (length a) * bit_value (carry c (x ∷ a) (y ∷ b) (suc (length a))) ≡ 2 * (2 ^ length a * bit_value (carry m a b (length a))) =
-      ap (λ k. k * bit_value (carry c (x ∷ a) (y ∷ b) (suc (length a)))) power ∙ ap (λ k. 2 * 2 ^ length a * k) out ∙ (omega arith) in
+    ap (λ k. k * bit_value (carry c (x ∷ a) (y ∷ b) (suc (length a)))) power ∙ ap (λ k. 2 * 2 ^ length a * k) out ∙ (omega arith) in
     omega arith
 
 carried_out : (p r : ℕ) (b : Bool) → r < p → nat_le p (r + p * bit_value b) ≡ b
@@ -228,7 +228,7 @@ carried_out p r false h = grind (arith, nat_tests)
 carry_out : (c : Bool) (a b : Word) → length b ≡ length a → nat_le (2 ^ length a) (number a + number b + bit_value c) ≡ carry c a b (length a)
 carry_out c a b h =
     let small : number (ripple c a b) < 2 ^ length a = (let l : length (ripple c a b) ≡ length a = length-ripple c a b h in let k : number (ripple c a b) < 2 ^ length (ripple c a b) = number_below (ripple c a b) in
-      let same : 2 ^ length (ripple c a b) ≡ 2 ^ length a = ap (λ j. 2 ^ j) l in omega arith) in
+    let same : 2 ^ length (ripple c a b) ≡ 2 ^ length a = ap (λ j. 2 ^ j) l in omega arith) in
     ap (nat_le (2 ^ length a)) (number_ripple c a b h) ∙ carried_out (2 ^ length a) (number (ripple c a b)) (carry c a b (length a)) small
 
 abbrev pub alu_carry_bit : ℕ → Bool → ℕ → List Word → Bool
@@ -249,8 +249,8 @@ carry_is n signed c inv u w i l =
     ∙ ap (λ k. nat_le (2 ^ k) (number x + number y + bit_value c)) (sym long_x)
     ∙ carry_out c x y long_y ∙ ap (carry c x y) (long_x ∙ add-one i)
     ∙ carry_local c x (alu_operand n signed false u) y (alu_operand n signed inv w) (suc i)
-      (λ k h. operand_bit (i + 1) signed false u k (omega arith) ∙ sym (operand_bit n signed false u k (omega arith)))
-      (λ k h. operand_bit (i + 1) signed inv w k (omega arith) ∙ sym (operand_bit n signed inv w k (omega arith)))
+    (λ k h. operand_bit (i + 1) signed false u k (omega arith) ∙ sym (operand_bit n signed false u k (omega arith)))
+    (λ k h. operand_bit (i + 1) signed inv w k (omega arith) ∙ sym (operand_bit n signed inv w k (omega arith)))
 
 -- an operand with all its tainted bits 0, or all 1, extended and complemented where inv is 1
 abbrev pub full_bound : ℕ → Bool → Bool → Word → Word → Bool → Word
@@ -259,16 +259,18 @@ full_bound n signed inv v t upper = word n (λ i. at_bound (is_upper n upper upp
 pub same_side : (k i : ℕ) (upper : Bool) → is_upper k upper upper i ≡ upper
 same_side k i upper = by_test (nat_lt i k)
   where
-  by_test : (b : Bool) → (if b then upper else upper) ≡ upper
-  by_test true = refl
-  by_test false = refl
+    by_test : (b : Bool) → (if b then upper else upper) ≡ upper
+    by_test true = refl
+    by_test false = refl
 
 full_reached : (n : ℕ) (signed inv : Bool) (v t : Word) (upper : Bool) → length t ≡ length v → 1 ≤ length v → (u : Word) × Completes v t u × (alu_operand n signed inv u ≡ full_bound n signed inv v t upper)
 full_reached n signed inv v t upper e some =
-    let k : ℕ = sign_start n signed (length v) in
-    (limit (xor upper inv) (xor upper inv) k v t, limit_completes (xor upper inv) (xor upper inv) k v t e,
+    let k : ℕ = sign_start n signed (length v) in (
+      limit (xor upper inv) (xor upper inv) k v t,
+      limit_completes (xor upper inv) (xor upper inv) k v t e,
       limit_bounds n signed inv v t upper upper e some
-      ∙ word-same n _ _ (λ i h. ap (λ s. at_bound s (xor (extended_bit signed i v) inv) (extended_bit signed i t)) (same_side k i upper ∙ sym (same_side n i upper))))
+          ∙ word-same n _ _ (λ i h. ap (λ s. at_bound s (xor (extended_bit signed i v) inv) (extended_bit signed i t)) (same_side k i upper ∙ sym (same_side n i upper))),
+    )
 
 full_above : (n : ℕ) (signed inv : Bool) (v t u : Word) → length t ≡ length v → Completes v t u → (k : ℕ) → Le (bit (full_bound n signed inv v t false) k) (bit (alu_operand n signed inv u) k)
 full_above n signed inv v t u e c k = le_word n k _ _ (λ l q.
@@ -292,20 +294,26 @@ carry_spread n signed i a ta b tb c tc d td e f k some_a some_b l t =
       reached = λ upper p q.
           let u = full_reached n signed false a ta upper e some_a in
           let w = full_reached n signed (bit d 0) b tb upper f some_b in
-          let y = z.reached upper in
-          (four u.0 w.0 y.0 d, four_complete a ta u.0 b tb w.0 c tc y.0 d td d u.1 w.1 y.1 (self_completes d td),
+          let y = z.reached upper in (
+            four u.0 w.0 y.0 d,
+            four_complete a ta u.0 b tb w.0 c tc y.0 d td d u.1 w.1 y.1 (self_completes d td),
             carry_is n signed (bit y.0 0) (bit d 0) u.0 w.0 i l ∙ ap (λ x. carry x (alu_operand n signed false u.0) (alu_operand n signed (bit d 0) w.0) (suc i)) y.2
-            ∙ ap (λ (x : Word). carry (at_bound upper (bit c 0) (bit tc 0)) x (alu_operand n signed (bit d 0) w.0) (suc i)) u.2
-            ∙ ap (λ (x : Word). carry (at_bound upper (bit c 0) (bit tc 0)) (full_bound n signed false a ta upper) x (suc i)) w.2 ∙ xor_none _);
-      within = λ us h off. (false, false, λ same.
-          let u : Word = operand us 0 in
-          let w : Word = operand us 1 in
-          let y : Word = operand us 2 in
-          ap (λ x. bit (alu_carry_word n signed (bit y 0) x u w) i) ((h.each 3).same 0 t) ∙ carry_is n signed (bit y 0) (bit d 0) u w i l
-          ∙ le_both (carry (bit y 0) (alu_operand n signed false u) (alu_operand n signed (bit d 0) w) (suc i)) (alu_carries n signed a ta b tb c tc (bit d 0) i false false false) (alu_carries n signed a ta b tb c tc (bit d 0) i true false false)
+                ∙ ap (λ (x : Word). carry (at_bound upper (bit c 0) (bit tc 0)) x (alu_operand n signed (bit d 0) w.0) (suc i)) u.2
+                ∙ ap (λ (x : Word). carry (at_bound upper (bit c 0) (bit tc 0)) (full_bound n signed false a ta upper) x (suc i)) w.2 ∙ xor_none _,
+          );
+      within = λ us h off. (
+        false,
+        false,
+        λ same.
+            let u : Word = operand us 0 in
+            let w : Word = operand us 1 in
+            let y : Word = operand us 2 in
+            ap (λ x. bit (alu_carry_word n signed (bit y 0) x u w) i) ((h.each 3).same 0 t) ∙ carry_is n signed (bit y 0) (bit d 0) u w i l
+            ∙ le_both (carry (bit y 0) (alu_operand n signed false u) (alu_operand n signed (bit d 0) w) (suc i)) (alu_carries n signed a ta b tb c tc (bit d 0) i false false false) (alu_carries n signed a ta b tb c tc (bit d 0) i true false false)
             (carry_grows _ _ _ _ _ _ (suc i) (z.above y (h.each 2)) (full_above n signed false a ta u e (h.each 0)) (full_above n signed (bit d 0) b tb w f (h.each 1)))
             (carry_grows _ _ _ _ _ _ (suc i) (z.below y (h.each 2)) (full_below n signed false a ta u e (h.each 0)) (full_below n signed (bit d 0) b tb w f (h.each 1))) same
-          ∙ xor_none _);
+            ∙ xor_none _,
+      );
       one_first = λ h u p q. refl;
       one_second = λ h u p q. refl;
     }
@@ -380,7 +388,7 @@ module _ (n : ℕ) (signed : Bool) (a ta b tb c tc d td : Word) (i : ℕ) (l : i
         first_completes = four_complete a ta a b tb b c tc c d td _ (self_completes a ta) (self_completes b tb) (self_completes c tc) (limit_completes true true 1 d td g);
         second_completes = four_complete a ta a b tb b c tc c d td _ (self_completes a ta) (self_completes b tb) (self_completes c tc) (limit_completes false false 1 d td g);
         differ = λ q. (let same : bit (limit true true 1 d td) 0 ≡ bit (limit false false 1 d td) 0 =
-          xor_left_cancel (extended_bit signed i b) _ _ (xor_left_cancel (extended_bit signed i a) _ _ (sym (xor_at n signed i (four a b c (limit true true 1 d td)) l) ∙ q ∙ xor_at n signed i (four a b c (limit false false 1 d td)) l)) in absurd (cc));
+            xor_left_cancel (extended_bit signed i b) _ _ (xor_left_cancel (extended_bit signed i a) _ _ (sym (xor_at n signed i (four a b c (limit true true 1 d td)) l) ∙ q ∙ xor_at n signed i (four a b c (limit false false 1 d td)) l)) in absurd (cc));
       }
 
   xor_only : alu_xor_rule signed ta tb td i ≡ true → CanDiffer (alu_xor_bit n signed i) (four a b c d) (four ta tb tc td)

@@ -18,3 +18,4 @@ pub mod AluTaints
 pub mod EqualRules
 pub mod EqualTaints
 pub mod ArithTaints
+pub mod SingleBits
