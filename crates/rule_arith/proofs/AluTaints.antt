@@ -1,6 +1,5 @@
 -- The formulas of $alu are the taint of its cell.
-use Rattle.std.specs.Prelude.{ℕ, zero, suc, ◌+◌, ◌<◌, ◌≤◌, ◌≡◌, ◌≢◌, Bool, true, false, List, [], ◌∷◌, map, length, get_or, nat_lt, Some, slice_get, refl}
-use Rattle.std.specs.List.{sum_by}
+use Rattle.std.specs.Prelude.{ℕ, zero, suc, ◌+◌, ◌<◌, ◌≤◌, ◌≡◌, ◌≢◌, Bool, true, false, List, [], ◌∷◌, map, length, get_or, nat_lt, Some, slice_get, refl, if◌then◌else◌}
 use Rattle.std.proofs.Common.{arith, sym, ap, ◌∙◌, subst}
 use Rattle.cif_defs.specs.Cells.{Cell, both_signed, meaning, number_of, words_by, y_width}
 use Rattle.cif_defs.specs.Completions.{IsExact}
@@ -26,7 +25,9 @@ use Rattle.rule_arith.specs.Addends.{bit_bound, operand_word, repeated}
 use Rattle.rule_arith.specs.AluFormulas.{alu_carry_taint, alu_named, alu_sum_taint, alu_sums, alu_xor_taint, carries_at}
 use Rattle.rule_arith.specs.Bounds.{sign_start}
 use Rattle.rule_arith.specs.SumFormulas.{of_pair, sum_at}
-use Rattle.rule_arith.proofs.AluRules.{alu_carry_bit, alu_carry_exact, alu_sum_bit, alu_sum_exact, alu_xor_bit, alu_xor_exact, four}
+use Rattle.rule_arith.proofs.AluRules.{alu_sum_bit, alu_sum_exact, alu_xor_bit, alu_xor_exact}
+use Rattle.rule_arith.proofs.AluCarries.{alu_carry_bit, alu_carry_exact}
+use Rattle.rule_arith.proofs.LastBit.{four}
 use Rattle.rule_arith.proofs.AluValues.{value-alu_carry, value-alu_sum, value-alu_xor}
 use Rattle.rule_arith.proofs.Forming.{AllFormed, Forms, formed_below, formed_bounds, formed_cases, formed_half, formed_joined, one_more, two_more}
 use Rattle.rule_arith.proofs.SumTaints.{forms_taint, forms_value}
@@ -143,7 +144,7 @@ formed_named ws n a b signed body k e some_a few_a some_b few_b some few h =
 bound_named : (ws : List ℕ) (n i : ℕ) → slice_get (inner_widths n) i ≡ Some (n + n) → 1 ≤ n → n ≤ 128 → IsFormed (Bound i) ws (inner_widths n) (n + n) 0
 bound_named ws n i h some few = formed_bound ws (inner_widths n) i (n + n) h (omega arith) (omega arith)
 
-second_bound : (ws : List ℕ) (n : ℕ) (inverted : Bool) → 1 ≤ n → n ≤ 128 → IsFormed (Bound (Rattle.std.specs.Prelude.if◌then◌else◌ inverted 0 1)) ws (inner_widths n) (n + n) 0
+second_bound : (ws : List ℕ) (n : ℕ) (inverted : Bool) → 1 ≤ n → n ≤ 128 → IsFormed (Bound (if inverted then 0 else 1)) ws (inner_widths n) (n + n) 0
 second_bound ws n true some few = bound_named ws n 0 refl some few
 second_bound ws n false some few = bound_named ws n 1 refl some few
 

@@ -20,7 +20,9 @@ use Rattle.rule_arith.specs.AluFormulas.{alu_sums as sums_named}
 use Rattle.rule_arith.specs.Bounds.{bounds, half_of, is_upper, sign_start, taint_below}
 use Rattle.rule_arith.specs.Cases.{joined}
 use Rattle.rule_arith.specs.SumFormulas.{first_operand, second_operand, sum_at, sums_taint}
-use Rattle.rule_arith.proofs.AluRules.{alu_carries, alu_carry_rule, alu_sum_rule, alu_sums, alu_xor_rule, four, same_side}
+use Rattle.rule_arith.proofs.AluRules.{alu_sum_rule, alu_sums, alu_xor_rule}
+use Rattle.rule_arith.proofs.AluCarries.{alu_carries, alu_carry_rule, same_side}
+use Rattle.rule_arith.proofs.LastBit.{four}
 use Rattle.rule_arith.proofs.BoundValues.{joined_values, value-bound, value-bounds, value-cases, value-half_of, value-joined, value-taint_below}
 use Rattle.rule_arith.proofs.Limits.{at_bound}
 use Rattle.rule_arith.proofs.OrderLimits.{one_bit}

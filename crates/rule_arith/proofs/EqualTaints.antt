@@ -23,7 +23,8 @@ use Rattle.rule_arith.specs.EqualFormulas.{either_case, equal_bit, equal_taint, 
 use Rattle.rule_arith.specs.SumFormulas.{of_pair}
 use Rattle.rule_arith.proofs.BinaryCells.{IsBinary, RowIsExact, binary_cell, pair_taint}
 use Rattle.rule_arith.proofs.BoundValues.{value-bound, value-bounds}
-use Rattle.rule_arith.proofs.EqualRules.{clash, eq_exact, equal_rule, in_case, meet, ne_exact, side_bit}
+use Rattle.rule_arith.proofs.Cuts.{clash, equal_rule, in_case, meet, side_bit}
+use Rattle.rule_arith.proofs.EqualRules.{eq_exact, ne_exact}
 use Rattle.rule_arith.proofs.Forming.{formed_bounds, formed_half, one_more, two_more}
 use Rattle.rule_arith.proofs.OrderTaints.{value-flag}
 use Rattle.rule_arith.proofs.SumTaints.{forms_taint, forms_value, gives_plain, gives_taint}

@@ -16,7 +16,7 @@ use Rattle.cif_defs.proofs.WordLaws.{length-word}
 use Rattle.cif_defs.proofs.WordNumbers.{compared-numbers, int_number-extend}
 use Rattle.cif_term.specs.CellTaints.{AreTaintsOf}
 use Rattle.cif_term.specs.Extended.{extended}
-use Rattle.cif_term.specs.Formulas.{Bound, Formula, IsFormed, Two, two_width, value_of}
+use Rattle.cif_term.specs.Formulas.{Bound, Formula, IsFormed, Two, value_of}
 use Rattle.cif_term.specs.declared.ops.Op2.TheVariants.{LessSigned, LessUnsigned, Xor}
 use Rattle.cif_term.proofs.CellTaints.{one_output}
 use Rattle.cif_term.proofs.Forms.{formed_bound, formed_extended, formed_let, raised}
@@ -115,10 +115,6 @@ greater_row n signed a ta b tb e f some_a some_b =
     (value-less_bit m signed 1 0 (a ∷ b ∷ []) (ta ∷ tb ∷ []) b tb a ta refl refl refl refl f e some_b some_a (omega arith) (omega arith))
 
 -- ---- widths and costs
-
-less_small : (signed : Bool) (n : ℕ) → two_width (less_op signed) n ≡ 1
-less_small true n = refl
-less_small false n = refl
 
 formed_less : {f g : Formula} {ws named : List ℕ} {m j k : ℕ} (signed : Bool) → m ≤ 128 → IsFormed f ws named m j → IsFormed g ws named m k → IsFormed (Two (less_op signed) f g) ws named 1 (j + k + 1)
 formed_less true h x y = two_more LessSigned (omega arith) (λ e. h) x y

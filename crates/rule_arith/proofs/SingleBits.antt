@@ -1,5 +1,5 @@
 -- A $sub whose words have one bit fits the table of kinds.
-use Rattle.std.specs.Prelude.{ℕ, ◌≤◌, ◌≡◌, List, [], ◌∷◌, map, length, refl}
+use Rattle.std.specs.Prelude.{◌≡◌, [], ◌∷◌, map, length, refl}
 use Rattle.std.proofs.Common.{arith, sym, ap, ◌∙◌, subst}
 use Rattle.cif_defs.specs.Cells.{Cell, number_in}
 use Rattle.cif_defs.specs.Fitted.{AllWithin, IsFitted, row_width}

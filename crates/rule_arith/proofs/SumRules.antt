@@ -26,10 +26,6 @@ pub xor_none : (x : Bool) → x ≡ xor x false
 xor_none true = refl
 xor_none false = refl
 
-not_twice : (x : Bool) → not (not x) ≡ x
-not_twice true = refl
-not_twice false = refl
-
 majority_not : (x y c : Bool) → majority (not x) (not y) (not c) ≡ not (majority x y c)
 majority_not true true true = refl
 majority_not true true false = refl

@@ -186,5 +186,7 @@ pub fn neg_term(alloc: Global, width: u32, signed: bool, bits: u32) -> Result<Te
         bits,
         signed,
     };
-    Ok(sum_term(alloc, width, &Addend::Complement(operand), &Addend::Unit)?)
+    let complement = Addend::Complement(operand);
+    let one = Addend::Unit;
+    Ok(sum_term(alloc, width, &complement, &one)?)
 }
