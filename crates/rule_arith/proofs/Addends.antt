@@ -1,16 +1,16 @@
 -- A sum of two addends and a carry, each of which has bounds: where its bits can differ.
-use Rattle.std.specs.Prelude.{ℕ, zero, suc, ◌+◌, ◌<◌, ◌≤◌, ◌≡◌, ◌≢◌, ◌⊎◌, nat_lt, Bool, true, false, not, ◌&&◌, ◌||◌, List, ◌∷◌, length, refl}
+use Rattle.std.specs.Prelude.{ℕ, zero, suc, ◌<◌, ◌≤◌, ◌≡◌, ◌≢◌, nat_lt, Bool, true, false, ◌&&◌, ◌||◌, List, ◌∷◌, length, refl}
 use Rattle.std.proofs.Common.{arith, sym, ap, ◌∙◌, inl, inr}
 use Rattle.std.proofs.lemmas.Bool.Decides.{nat_tests}
-use Rattle.cif_defs.specs.Completions.{AllComplete, CanDiffer, Completes}
+use Rattle.cif_defs.specs.Completions.{AllComplete, Completes}
 use Rattle.cif_defs.specs.Meanings.{alu_operand}
 use Rattle.cif_defs.specs.Words.{Word, bit, extended_bit, majority, word, xor}
-use Rattle.cif_defs.proofs.WordLaws.{bit-word, length-word, le_or_lt, past_word}
+use Rattle.cif_defs.proofs.WordLaws.{bit-word, le_or_lt, past_word}
 use Rattle.cif_defs.proofs.Numbers.{Le, word-same}
 use Rattle.cif_defs.proofs.SumExact.{operand_bit}
 use Rattle.cif_defs.proofs.Sums.{carry, carry_local, carry_mono, self_completes, sum_bit}
 use Rattle.rule_arith.specs.Bounds.{is_upper, sign_start}
-use Rattle.rule_arith.proofs.Limits.{StandsAlone, above_side, at_bound, below_side, bound_word, lies_between, limit, limit_bounds, limit_completes, sign_of, stands_alone}
+use Rattle.rule_arith.proofs.Limits.{StandsAlone, at_bound, below_side, bound_word, lies_between, limit, limit_bounds, limit_completes, sign_of, stands_alone}
 use Rattle.rule_arith.proofs.Turns.{IsSpread, or_off, or_on, xor_cancel}
 
 -- ---- addends
@@ -50,16 +50,22 @@ operand_addend n i signed inv v t e some l =
       one_side = λ s upper side. word-same n _ _ (λ j q. ap (λ b. at_bound b (xor (extended_bit signed j v) inv) (extended_bit signed j t)) (one_way s upper side j q));
     }
   where
-  alone_by : StandsAlone signed inv v t i
-      → (one : Word) × (other : Word) × Completes v t one × Completes v t other × (bit (alu_operand n signed inv one) i ≢ bit (alu_operand n signed inv other) i)
+    alone_by : StandsAlone signed inv v t i
+        → (one : Word) × (other : Word) × Completes v t one × Completes v t other × (bit (alu_operand n signed inv one) i ≢ bit (alu_operand n signed inv other) i)
         × ((j : ℕ) → j < i → bit (alu_operand n signed inv one) j ≡ bit (alu_operand n signed inv other) j)
-  alone_by a = (_, _, a.one, a.zero, λ q. a.differ (sym (operand_bit n signed inv _ i l) ∙ q ∙ operand_bit n signed inv _ i l),
-      λ j q. operand_bit n signed inv _ j (omega arith) ∙ ap (λ b. xor b inv) (a.alike j q) ∙ sym (operand_bit n signed inv _ j (omega arith)))
+    alone_by a = (
+      _,
+      _,
+      a.one,
+      a.zero,
+      λ q. a.differ (sym (operand_bit n signed inv _ i l) ∙ q ∙ operand_bit n signed inv _ i l),
+      λ j q. operand_bit n signed inv _ j (omega arith) ∙ ap (λ b. xor b inv) (a.alike j q) ∙ sym (operand_bit n signed inv _ j (omega arith)),
+    )
 
-  one_way : nat_lt (sign_start n signed (length v)) n ≡ false → (upper side : Bool) (j : ℕ) → j < n → is_upper (sign_start n signed (length v)) upper side j ≡ is_upper (sign_start n signed (length v)) upper false j
-  one_way s upper side j q =
-      let late : n ≤ sign_start n signed (length v) = grind (arith, nat_tests) in
-      below_side (sign_start n signed (length v)) j upper side (omega arith) ∙ sym (below_side (sign_start n signed (length v)) j upper false (omega arith))
+    one_way : nat_lt (sign_start n signed (length v)) n ≡ false → (upper side : Bool) (j : ℕ) → j < n → is_upper (sign_start n signed (length v)) upper side j ≡ is_upper (sign_start n signed (length v)) upper false j
+    one_way s upper side j q =
+        let late : n ≤ sign_start n signed (length v) = grind (arith, nat_tests) in
+        below_side (sign_start n signed (length v)) j upper side (omega arith) ∙ sym (below_side (sign_start n signed (length v)) j upper false (omega arith))
 
 -- a word w that is always the same
 pub constant_addend : (n i : ℕ) (v t w : Word) (single split : Bool) (bounds : Bool → Bool → Word) → single ≡ false → ((upper side : Bool) → bounds upper side ≡ w) → IsAddend n i v t (λ u. w) single split bounds
@@ -173,27 +179,29 @@ pub sum_spread : (n i : ℕ) (f : List Word → Bool) (vs ts : List Word) (a ta 
 sum_spread n i f vs ts a ta b tb c tc X Y Z turned single_x split_x single_y split_y x y z px py pz s = record {
   alone = λ h. elim (or_on single_x single_y h) [
     | inl l ↦ (let r = px.alone l in record {
-        first = s.make r.0 b c;
-        second = s.make r.1 b c;
-        first_completes = s.complete r.0 b c r.2 (self_completes b tb) (self_completes c tc);
-        second_completes = s.complete r.1 b c r.3 (self_completes b tb) (self_completes c tc);
-        differ = λ q. changed_first (Z c) (X r.0) (X r.1) (Y b) i r.4 r.5 (xor_cancel _ _ turned (sym (s.value r.0 b c) ∙ q ∙ s.value r.1 b c));
-      })
+      first = s.make r.0 b c;
+      second = s.make r.1 b c;
+      first_completes = s.complete r.0 b c r.2 (self_completes b tb) (self_completes c tc);
+      second_completes = s.complete r.1 b c r.3 (self_completes b tb) (self_completes c tc);
+      differ = λ q. changed_first (Z c) (X r.0) (X r.1) (Y b) i r.4 r.5 (xor_cancel _ _ turned (sym (s.value r.0 b c) ∙ q ∙ s.value r.1 b c));
+    })
     | inr l ↦ (let r = py.alone l in record {
-        first = s.make a r.0 c;
-        second = s.make a r.1 c;
-        first_completes = s.complete a r.0 c (self_completes a ta) r.2 (self_completes c tc);
-        second_completes = s.complete a r.1 c (self_completes a ta) r.3 (self_completes c tc);
-        differ = λ q. changed_second (Z c) (X a) (Y r.0) (Y r.1) i r.4 r.5 (xor_cancel _ _ turned (sym (s.value a r.0 c) ∙ q ∙ s.value a r.1 c));
-      })
+      first = s.make a r.0 c;
+      second = s.make a r.1 c;
+      first_completes = s.complete a r.0 c (self_completes a ta) r.2 (self_completes c tc);
+      second_completes = s.complete a r.1 c (self_completes a ta) r.3 (self_completes c tc);
+      differ = λ q. changed_second (Z c) (X a) (Y r.0) (Y r.1) i r.4 r.5 (xor_cancel _ _ turned (sym (s.value a r.0 c) ∙ q ∙ s.value a r.1 c));
+    })
   ];
   reached = λ upper p q.
       let u = px.reached upper p in
       let w = py.reached upper q in
-      let k = pz.reached upper in
-      (s.make u.0 w.0 k.0, s.complete u.0 w.0 k.0 u.1 w.1 k.1,
+      let k = pz.reached upper in (
+        s.make u.0 w.0 k.0,
+        s.complete u.0 w.0 k.0 u.1 w.1 k.1,
         s.value u.0 w.0 k.0 ∙ ap (λ d. xor (sum_bit d (X u.0) (Y w.0) i) turned) k.2
-        ∙ ap (λ (d : Word). xor (sum_bit (z upper) d (Y w.0) i) turned) u.2 ∙ ap (λ (d : Word). xor (sum_bit (z upper) (x upper p) d i) turned) w.2);
+            ∙ ap (λ (d : Word). xor (sum_bit (z upper) d (Y w.0) i) turned) u.2 ∙ ap (λ (d : Word). xor (sum_bit (z upper) (x upper p) d i) turned) w.2,
+      );
   within = λ us d off.
       let none = or_off single_x single_y off in
       let u : Word = s.first us in
@@ -201,12 +209,15 @@ sum_spread n i f vs ts a ta b tb c tc X Y Z turned single_x split_x single_y spl
       let k : Word = s.carried us in
       let cu : Completes a ta u = s.first_completes us d in
       let cw : Completes b tb w = s.second_completes us d in
-      let ck : Completes c tc k = s.carried_completes us d in
-      (px.side u, py.side w, λ q.
-        s.split us d ∙ ap (λ e. xor e turned)
-        (sum_between (z false) (z true) (Z k) (x false (px.side u)) (x true (px.side u)) (X u) (y false (py.side w)) (y true (py.side w)) (Y w) i
-          (pz.above k ck) (pz.below k ck) (px.above u cu) (px.below u cu) (py.above w cw) (py.below w cw)
-          (px.same u cu none.0 false) (px.same u cu none.0 true) (py.same w cw none.1 false) (py.same w cw none.1 true) q));
+      let ck : Completes c tc k = s.carried_completes us d in (
+        px.side u,
+        py.side w,
+        λ q.
+            s.split us d ∙ ap (λ e. xor e turned)
+            (sum_between (z false) (z true) (Z k) (x false (px.side u)) (x true (px.side u)) (X u) (y false (py.side w)) (y true (py.side w)) (Y w) i
+            (pz.above k ck) (pz.below k ck) (px.above u cu) (px.below u cu) (py.above w cw) (py.below w cw)
+            (px.same u cu none.0 false) (px.same u cu none.0 true) (py.same w cw none.1 false) (py.same w cw none.1 true) q),
+      );
   one_first = λ h upper p q. ap (λ (d : Word). sum_bit (z upper) d (y upper q) i) (px.one_side h upper p);
   one_second = λ h upper p q. ap (λ (d : Word). sum_bit (z upper) (x upper p) d i) (py.one_side h upper q);
 }

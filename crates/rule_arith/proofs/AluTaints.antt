@@ -1,6 +1,5 @@
 -- The formulas of $alu are the taint of its cell.
-use Rattle.std.specs.Prelude.{ℕ, zero, suc, ◌+◌, ◌<◌, ◌≤◌, ◌≡◌, ◌≢◌, Bool, true, false, List, [], ◌∷◌, map, length, get_or, nat_lt, Some, slice_get, refl}
-use Rattle.std.specs.List.{sum_by}
+use Rattle.std.specs.Prelude.{ℕ, zero, suc, ◌+◌, ◌<◌, ◌≤◌, ◌≡◌, ◌≢◌, Bool, true, false, List, [], ◌∷◌, map, length, get_or, nat_lt, Some, slice_get, refl, if◌then◌else◌}
 use Rattle.std.proofs.Common.{arith, sym, ap, ◌∙◌, subst}
 use Rattle.cif_defs.specs.Cells.{Cell, both_signed, meaning, number_of, words_by, y_width}
 use Rattle.cif_defs.specs.Completions.{IsExact}
@@ -16,18 +15,19 @@ use Rattle.cif_defs.specs.declared.kinds.Param.TheVariants.{AWidth, BWidth, YWid
 use Rattle.cif_defs.specs.declared.kinds.PortRow.{PortRow}
 use Rattle.cif_defs.specs.declared.kinds.PortWidth.TheVariants.{Of, One as OneBit}
 use Rattle.cif_term.specs.CellTaints.{AreTaintsOf, IsTaintOf, output_width}
-use Rattle.cif_term.specs.Extended.{extended}
-use Rattle.cif_term.specs.Formulas.{Bound, Const, Formula, IsFormed, Taint, Two, Value, cost_of, value_of}
+use Rattle.cif_term.specs.Formulas.{Bound, Const, Formula, IsFormed, Two, value_of}
 use Rattle.cif_term.specs.declared.ops.Op1.TheVariants.{Not}
 use Rattle.cif_term.specs.declared.ops.Op2.TheVariants.{Add, And, Or, Xor}
 use Rattle.cif_term.proofs.CellTaints.{exact_taint}
 use Rattle.cif_term.proofs.Forms.{formed_bound, formed_extended, formed_join, formed_let, formed_taint, formed_value, raised}
 use Rattle.rule_arith.specs.declared.sums.Sums.{Sums}
-use Rattle.rule_arith.specs.Addends.{bit_bound, operand_taint, operand_word, repeated}
-use Rattle.rule_arith.specs.AluFormulas.{alu_carry_taint, alu_named, alu_sum_taint, alu_sums, alu_xor_taint, carries_at, carry_bounds}
-use Rattle.rule_arith.specs.Bounds.{half_of, sign_start}
+use Rattle.rule_arith.specs.Addends.{bit_bound, operand_word, repeated}
+use Rattle.rule_arith.specs.AluFormulas.{alu_carry_taint, alu_named, alu_sum_taint, alu_sums, alu_xor_taint, carries_at}
+use Rattle.rule_arith.specs.Bounds.{sign_start}
 use Rattle.rule_arith.specs.SumFormulas.{of_pair, sum_at}
-use Rattle.rule_arith.proofs.AluRules.{alu_carry_bit, alu_carry_exact, alu_sum_bit, alu_sum_exact, alu_xor_bit, alu_xor_exact, four}
+use Rattle.rule_arith.proofs.AluRules.{alu_sum_bit, alu_sum_exact, alu_xor_bit, alu_xor_exact}
+use Rattle.rule_arith.proofs.AluCarries.{alu_carry_bit, alu_carry_exact}
+use Rattle.rule_arith.proofs.LastBit.{four}
 use Rattle.rule_arith.proofs.AluValues.{value-alu_carry, value-alu_sum, value-alu_xor}
 use Rattle.rule_arith.proofs.Forming.{AllFormed, Forms, formed_below, formed_bounds, formed_cases, formed_half, formed_joined, one_more, two_more}
 use Rattle.rule_arith.proofs.SumTaints.{forms_taint, forms_value}
@@ -135,16 +135,16 @@ formed_named ws n a b signed body k e some_a few_a some_b few_b some few h =
     let at_d : slice_get ws 3 ≡ Some 1 = ap (λ xs. slice_get xs 3) e in
     raised (k + 25)
     (formed_let (formed_bounds some (omega arith) (forms_value ws n a signed 0 at_a some_a (omega arith) some (omega arith) []) (forms_taint ws n a signed 0 at_a some_a (omega arith) some (omega arith) []))
-      (formed_let (formed_join (formed_extended n 1 false (formed_bit_bound ws ((n + n) ∷ []) 2 false at_c) (omega arith) some (omega arith)) (formed_extended n 1 false (formed_bit_bound ws ((n + n) ∷ []) 2 true at_c) (omega arith) some (omega arith)) (omega arith) (omega arith))
-        (formed_let (formed_bounds some (omega arith) (forms_inverted ws n b signed 1 3 false at_b at_d some_b few_b some few ((n + n) ∷ (n + n) ∷ [])) (forms_taint ws n b signed 1 at_b some_b (omega arith) some (omega arith) ((n + n) ∷ (n + n) ∷ [])))
-          (formed_let (formed_bounds some (omega arith) (forms_inverted ws n b signed 1 3 true at_b at_d some_b few_b some few ((n + n) ∷ (n + n) ∷ (n + n) ∷ [])) (forms_taint ws n b signed 1 at_b some_b (omega arith) some (omega arith) ((n + n) ∷ (n + n) ∷ (n + n) ∷ [])))
-            h))))
+    (formed_let (formed_join (formed_extended n 1 false (formed_bit_bound ws ((n + n) ∷ []) 2 false at_c) (omega arith) some (omega arith)) (formed_extended n 1 false (formed_bit_bound ws ((n + n) ∷ []) 2 true at_c) (omega arith) some (omega arith)) (omega arith) (omega arith))
+    (formed_let (formed_bounds some (omega arith) (forms_inverted ws n b signed 1 3 false at_b at_d some_b few_b some few ((n + n) ∷ (n + n) ∷ [])) (forms_taint ws n b signed 1 at_b some_b (omega arith) some (omega arith) ((n + n) ∷ (n + n) ∷ [])))
+    (formed_let (formed_bounds some (omega arith) (forms_inverted ws n b signed 1 3 true at_b at_d some_b few_b some few ((n + n) ∷ (n + n) ∷ (n + n) ∷ [])) (forms_taint ws n b signed 1 at_b some_b (omega arith) some (omega arith) ((n + n) ∷ (n + n) ∷ (n + n) ∷ [])))
+    h))))
     (omega arith)
 
 bound_named : (ws : List ℕ) (n i : ℕ) → slice_get (inner_widths n) i ≡ Some (n + n) → 1 ≤ n → n ≤ 128 → IsFormed (Bound i) ws (inner_widths n) (n + n) 0
 bound_named ws n i h some few = formed_bound ws (inner_widths n) i (n + n) h (omega arith) (omega arith)
 
-second_bound : (ws : List ℕ) (n : ℕ) (inverted : Bool) → 1 ≤ n → n ≤ 128 → IsFormed (Bound (Rattle.std.specs.Prelude.if◌then◌else◌ inverted 0 1)) ws (inner_widths n) (n + n) 0
+second_bound : (ws : List ℕ) (n : ℕ) (inverted : Bool) → 1 ≤ n → n ≤ 128 → IsFormed (Bound (if inverted then 0 else 1)) ws (inner_widths n) (n + n) 0
 second_bound ws n true some few = bound_named ws n 0 refl some few
 second_bound ws n false some few = bound_named ws n 1 refl some few
 
@@ -173,12 +173,12 @@ formed_sum_output ws n a b signed e some_a few_a some_b few_b some few =
     let s1 : Sums = alu_sums n j k true in
     raised 120
     (formed_named ws n a b signed _ 91 e some_a few_a some_b few_b some few
-      (two_more Or short (λ q. absurd (cc))
-        (two_more Or short (λ q. absurd (cc)) (formed_below j some short (forms_taint ws n a signed 0 at_a some_a (omega arith) some short (inner_widths n))) (formed_below k some short (forms_taint ws n b signed 1 at_b some_b (omega arith) some short (inner_widths n))))
-        (formed_joined short
-          (formed_cases (nat_lt j n) (nat_lt k n) (sum_at s0) ws (inner_widths n) n 2 short (formed_alu_sum ws n j k false some few))
-          (formed_cases (nat_lt j n) (nat_lt k n) (sum_at s1) ws (inner_widths n) n 2 short (formed_alu_sum ws n j k true some few))
-          (formed_alu_sum ws n j k false some few false false false) (formed_alu_sum ws n j k true some few false false false))))
+    (two_more Or short (λ q. absurd (cc))
+    (two_more Or short (λ q. absurd (cc)) (formed_below j some short (forms_taint ws n a signed 0 at_a some_a (omega arith) some short (inner_widths n))) (formed_below k some short (forms_taint ws n b signed 1 at_b some_b (omega arith) some short (inner_widths n))))
+    (formed_joined short
+    (formed_cases (nat_lt j n) (nat_lt k n) (sum_at s0) ws (inner_widths n) n 2 short (formed_alu_sum ws n j k false some few))
+    (formed_cases (nat_lt j n) (nat_lt k n) (sum_at s1) ws (inner_widths n) n 2 short (formed_alu_sum ws n j k true some few))
+    (formed_alu_sum ws n j k false some few false false false) (formed_alu_sum ws n j k true some few false false false))))
     (omega arith)
 
 formed_carry_output : (ws : List ℕ) (n a b : ℕ) (signed : Bool) → AluWidths ws a b → 1 ≤ a → a ≤ 128 → 1 ≤ b → b ≤ 128 → 1 ≤ n → n ≤ 128 → IsFormed (alu_carry_taint n signed a b) ws [] n 80
@@ -188,7 +188,7 @@ formed_carry_output ws n a b signed e some_a few_a some_b few_b some few =
     let c1 = formed_carries ws n true some few in
     raised 80
     (formed_named ws n a b signed _ 47 e some_a few_a some_b few_b some few
-      (formed_joined short (two_more Xor short (λ q. absurd (cc)) (c0 false) (c0 true)) (two_more Xor short (λ q. absurd (cc)) (c1 false) (c1 true)) (c0 false) (c1 false)))
+    (formed_joined short (two_more Xor short (λ q. absurd (cc)) (c0 false) (c0 true)) (two_more Xor short (λ q. absurd (cc)) (c1 false) (c1 true)) (c0 false) (c1 false)))
     (omega arith)
 
 formed_xor_output : (ws : List ℕ) (n a b : ℕ) (signed : Bool) → AluWidths ws a b → 1 ≤ a → a ≤ 128 → 1 ≤ b → b ≤ 128 → 1 ≤ n → n ≤ 128 → IsFormed (alu_xor_taint n signed a b) ws [] n 2
@@ -246,7 +246,7 @@ exact_at c g f h exact vs ts pv pt =
     let some_a : 1 ≤ length a = subst (λ m. 1 ≤ m) (sym pv.first) h.some_a in
     let some_b : 1 ≤ length b = subst (λ m. 1 ≤ m) (sym pv.second) h.some_b in
     let at_words : IsExact n (g n signed) (four a b ci bi) (four ta tb tci tbi) (value_of (f n signed (length a) (length b)) (four a b ci bi) (four ta tb tci tbi) []) =
-      exact n signed a ta b tb ci tci bi tbi (pt.first ∙ sym pv.first) (pt.second ∙ sym pv.second) some_a some_b pv.third pt.third pv.fourth pt.fourth in
+    exact n signed a ta b tb ci tci bi tbi (pt.first ∙ sym pv.first) (pt.second ∙ sym pv.second) some_a some_b pv.third pt.third pv.fourth pt.fourth in
     let at_a = subst (λ m. IsExact n (g n signed) (four a b ci bi) (four ta tb tci tbi) (value_of (f n signed m (length b)) (four a b ci bi) (four ta tb tci tbi) [])) pv.first at_words in
     let at_b = subst (λ m. IsExact n (g n signed) (four a b ci bi) (four ta tb tci tbi) (value_of (f n signed (number_of c AWidth) m) (four a b ci bi) (four ta tb tci tbi) [])) pv.second at_a in
     let at_v = subst (λ ws. IsExact n (g n signed) ws (four ta tb tci tbi) (value_of (of_pair f c) ws (four ta tb tci tbi) [])) (sym pv.whole) at_b in
@@ -257,8 +257,8 @@ output_taint_is : (c : Cell) (p k : ℕ) (g : ℕ → Bool → ℕ → List Word
 output_taint_is c p k g f h fine l same exact formed = record {
   formed = formed.width ∙ ap Some (sym (output_is c h p l));
   means = λ vs ts hv ht.
-    exact_taint c p (g (y_width c) (both_signed c)) vs ts (value_of (of_pair f c) vs ts []) fine same
-    (subst (λ m. IsExact m (g (y_width c) (both_signed c)) vs ts (value_of (of_pair f c) vs ts [])) (sym (output_is c h p l))
+      exact_taint c p (g (y_width c) (both_signed c)) vs ts (value_of (of_pair f c) vs ts []) fine same
+      (subst (λ m. IsExact m (g (y_width c) (both_signed c)) vs ts (value_of (of_pair f c) vs ts [])) (sym (output_is c h p l))
       (exact_at c g f h exact vs ts (four_of_words (number_of c AWidth) (number_of c BWidth) vs (hv ∙ h.widths)) (four_of_words (number_of c AWidth) (number_of c BWidth) ts (ht ∙ h.widths))));
 }
 
@@ -282,9 +282,9 @@ alu_taints c fitted e =
     let y = formed_sum_output (operand_widths c) n (number_of c AWidth) (number_of c BWidth) signed h.widths h.some_a h.few_a h.some_b h.few_b h.some_y h.few_y in
     let co = formed_carry_output (operand_widths c) n (number_of c AWidth) (number_of c BWidth) signed h.widths h.some_a h.few_a h.some_b h.few_b h.some_y h.few_y in
     let given : (us : List Word) → meaning c us
-      ≡ alu_xor_word n signed (bit (operand us 3) 0) (operand us 0) (operand us 1)
-      ∷ alu_sum_word n signed (bit (operand us 2) 0) (bit (operand us 3) 0) (operand us 0) (operand us 1)
-      ∷ alu_carry_word n signed (bit (operand us 2) 0) (bit (operand us 3) 0) (operand us 0) (operand us 1) ∷ [] = λ us. ap (λ k. words_by k c us) e ∙ alu_words c us in
+    ≡ alu_xor_word n signed (bit (operand us 3) 0) (operand us 0) (operand us 1)
+    ∷ alu_sum_word n signed (bit (operand us 2) 0) (bit (operand us 3) 0) (operand us 0) (operand us 1)
+    ∷ alu_carry_word n signed (bit (operand us 2) 0) (bit (operand us 3) 0) (operand us 0) (operand us 1) ∷ [] = λ us. ap (λ k. words_by k c us) e ∙ alu_words c us in
     let heavy : weight c ≡ 224 = ap (λ k. weight_by k c) e ∙ alu_weight c in
     record {
       as_many = sym (ap length h.three);

@@ -1,5 +1,5 @@
 -- The formulas of a covered cell are the taint of its outputs.
-use Rattle.std.specs.Prelude.{ℕ, ◌+◌, ◌<◌, ◌≤◌, ◌≡◌, Bool, true, List, [], ◌∷◌, ◌++◌, map, length, get_or, refl}
+use Rattle.std.specs.Prelude.{ℕ, ◌+◌, ◌<◌, ◌≤◌, ◌≡◌, true, List, [], ◌∷◌, ◌++◌, map, length, get_or, refl}
 use Rattle.std.specs.List.{range_with_len}
 use Rattle.std.proofs.Common.{arith, sym, ap, subst, ◌∙◌}
 use Rattle.std.proofs.lemmas.List.{map_push}
@@ -11,7 +11,7 @@ use Rattle.cif_defs.specs.declared.kinds.Kind.{Kind}
 use Rattle.cif_defs.specs.declared.kinds.Kind.TheVariants.{Neg, Add, Sub, Eq, Ne, Eqx, Nex, Lt, Le, Ge, Gt, Alu}
 use Rattle.cif_defs.specs.declared.kinds.Param.TheVariants.{AWidth, BWidth, YWidth}
 use Rattle.cif_term.specs.CellTaints.{AreTaintsOf, IsTaintOf}
-use Rattle.cif_term.specs.Formulas.{Const, Formula}
+use Rattle.cif_term.specs.Formulas.{Const}
 use Rattle.cif_term.specs.TermView.{formula_of}
 use Rattle.cif_term.specs.declared.term.Term.{Term}
 use Rattle.rule_arith.specs.ArithFormulas.{arith_formula, covers_arith, formula_by, formulas_by, is_pair}

@@ -1,5 +1,5 @@
 -- What is known of the words of a fitted cell of two operands.
-use Rattle.std.specs.Prelude.{ℕ, suc, ◌<◌, get_or, Some, false, ◌+◌, ◌≤◌, ◌≡◌, ◌≢◌, Bool, List, [], ◌∷◌, map, length, refl}
+use Rattle.std.specs.Prelude.{ℕ, suc, get_or, Some, false, ◌≤◌, ◌≡◌, ◌≢◌, Bool, List, [], ◌∷◌, map, length, refl}
 use Rattle.std.proofs.Common.{arith, sym, ap, ◌∙◌, subst}
 use Rattle.cif_defs.specs.Cells.{Cell, binary, both_signed, meaning, number_of, y_width}
 use Rattle.cif_defs.specs.Completions.{IsExact, of_two}
@@ -82,26 +82,26 @@ pub pair_taint : (c : Cell) (limit k : ℕ) (row : ℕ → Bool → Word → Wor
 pair_taint c limit k row f b fine same exact formed = record {
   formed = formed.width ∙ ap Some (sym (y_output c b.one_output));
   means = λ vs ts hv ht.
-    let pv = pair_of_words (number_of c AWidth) (number_of c BWidth) vs (hv ∙ b.widths) in
-    let pt = pair_of_words (number_of c AWidth) (number_of c BWidth) ts (ht ∙ b.widths) in
-    exact_taint c 0 (of_two (row (y_width c) (both_signed c))) vs ts (value_of (of_pair f c) vs ts []) fine
+      let pv = pair_of_words (number_of c AWidth) (number_of c BWidth) vs (hv ∙ b.widths) in
+      let pt = pair_of_words (number_of c AWidth) (number_of c BWidth) ts (ht ∙ b.widths) in
+      exact_taint c 0 (of_two (row (y_width c) (both_signed c))) vs ts (value_of (of_pair f c) vs ts []) fine
       (λ i us. ap (λ (ws : List Word). bit (operand ws 0) i) (same us)) (exact_at vs ts pv pt);
 }
   where
-  exact_at : (vs ts : List Word) → ArePair (number_of c AWidth) (number_of c BWidth) vs → ArePair (number_of c AWidth) (number_of c BWidth) ts
-      → IsExact (output_width c 0) (of_two (row (y_width c) (both_signed c))) vs ts (value_of (of_pair f c) vs ts [])
-  exact_at vs ts pv pt =
-      let a : Word = operand vs 0 in
-      let d : Word = operand vs 1 in
-      let ta : Word = operand ts 0 in
-      let td : Word = operand ts 1 in
-      let n : ℕ = y_width c in
-      let some_a : 1 ≤ length a = subst (λ m. 1 ≤ m) (sym pv.first) b.some_a in
-      let some_d : 1 ≤ length d = subst (λ m. 1 ≤ m) (sym pv.second) b.some_b in
-      let at_words : IsExact n (of_two (row n (both_signed c))) (a ∷ d ∷ []) (ta ∷ td ∷ []) (value_of (f n (both_signed c) (length a) (length d)) (a ∷ d ∷ []) (ta ∷ td ∷ []) [])
+    exact_at : (vs ts : List Word) → ArePair (number_of c AWidth) (number_of c BWidth) vs → ArePair (number_of c AWidth) (number_of c BWidth) ts
+        → IsExact (output_width c 0) (of_two (row (y_width c) (both_signed c))) vs ts (value_of (of_pair f c) vs ts [])
+    exact_at vs ts pv pt =
+        let a : Word = operand vs 0 in
+        let d : Word = operand vs 1 in
+        let ta : Word = operand ts 0 in
+        let td : Word = operand ts 1 in
+        let n : ℕ = y_width c in
+        let some_a : 1 ≤ length a = subst (λ m. 1 ≤ m) (sym pv.first) b.some_a in
+        let some_d : 1 ≤ length d = subst (λ m. 1 ≤ m) (sym pv.second) b.some_b in
+        let at_words : IsExact n (of_two (row n (both_signed c))) (a ∷ d ∷ []) (ta ∷ td ∷ []) (value_of (f n (both_signed c) (length a) (length d)) (a ∷ d ∷ []) (ta ∷ td ∷ []) [])
         = exact n (both_signed c) a ta d td b.some_y (pt.first ∙ sym pv.first) (pt.second ∙ sym pv.second) some_a some_d in
-      let at_a = subst (λ m. IsExact n (of_two (row n (both_signed c))) (a ∷ d ∷ []) (ta ∷ td ∷ []) (value_of (f n (both_signed c) m (length d)) (a ∷ d ∷ []) (ta ∷ td ∷ []) [])) pv.first at_words in
-      let at_b = subst (λ m. IsExact n (of_two (row n (both_signed c))) (a ∷ d ∷ []) (ta ∷ td ∷ []) (value_of (f n (both_signed c) (number_of c AWidth) m) (a ∷ d ∷ []) (ta ∷ td ∷ []) [])) pv.second at_a in
-      let at_v = subst (λ ws. IsExact n (of_two (row n (both_signed c))) ws (ta ∷ td ∷ []) (value_of (of_pair f c) ws (ta ∷ td ∷ []) [])) (sym pv.whole) at_b in
-      let at_t = subst (λ ws. IsExact n (of_two (row n (both_signed c))) vs ws (value_of (of_pair f c) vs ws [])) (sym pt.whole) at_v in
-      subst (λ m. IsExact m (of_two (row n (both_signed c))) vs ts (value_of (of_pair f c) vs ts [])) (sym (y_output c b.one_output)) at_t
+        let at_a = subst (λ m. IsExact n (of_two (row n (both_signed c))) (a ∷ d ∷ []) (ta ∷ td ∷ []) (value_of (f n (both_signed c) m (length d)) (a ∷ d ∷ []) (ta ∷ td ∷ []) [])) pv.first at_words in
+        let at_b = subst (λ m. IsExact n (of_two (row n (both_signed c))) (a ∷ d ∷ []) (ta ∷ td ∷ []) (value_of (f n (both_signed c) (number_of c AWidth) m) (a ∷ d ∷ []) (ta ∷ td ∷ []) [])) pv.second at_a in
+        let at_v = subst (λ ws. IsExact n (of_two (row n (both_signed c))) ws (ta ∷ td ∷ []) (value_of (of_pair f c) ws (ta ∷ td ∷ []) [])) (sym pv.whole) at_b in
+        let at_t = subst (λ ws. IsExact n (of_two (row n (both_signed c))) vs ws (value_of (of_pair f c) vs ws [])) (sym pt.whole) at_v in
+        subst (λ m. IsExact m (of_two (row n (both_signed c))) vs ts (value_of (of_pair f c) vs ts [])) (sym (y_output c b.one_output)) at_t

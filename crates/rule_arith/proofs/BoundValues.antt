@@ -1,7 +1,7 @@
 -- What formulas of bounds and cases stand for, place by place.
-use Rattle.std.specs.Prelude.{ℕ, ◌+◌, ◌<◌, ◌≤◌, ◌≡◌, nat_lt, Bool, true, false, not, ◌&&◌, ◌||◌, List, [], ◌∷◌, ◌++◌, map, length, get_or, if◌then◌else◌, refl}
+use Rattle.std.specs.Prelude.{ℕ, ◌+◌, ◌<◌, ◌≡◌, nat_lt, Bool, true, false, not, ◌&&◌, ◌||◌, List, [], ◌∷◌, ◌++◌, map, length, get_or, if◌then◌else◌, refl}
 use Rattle.std.specs.List.{range_with_len}
-use Rattle.std.proofs.Common.{arith, sym, ap, ◌∙◌}
+use Rattle.std.proofs.Common.{arith, ap, ◌∙◌}
 use Rattle.std.proofs.lemmas.List.{length-map, get_or-map, get_or_append_left, get_or-append_right}
 use Rattle.std.proofs.lemmas.List.FromFn.{fill_by_all, map-range_with_len_more, length-range_with_len, get_or-range_with_len}
 use Rattle.cif_defs.specs.Words.{Word, bit, word, xor, zeros}
@@ -50,7 +50,7 @@ picked_half : (n k : ℕ) (low high : Bool) (p q : ℕ → Bool) → picked (hal
 picked_half n k low high p q = fill_by_all (λ i. if is_upper k low high i then q i else p i) (picked (half_places n k low high) (word n p ++ word n q)) n false
     (length-map (half_places n k low high) (λ i. bit (word n p ++ word n q) i) ∙ length-half_places n k low high)
     (λ i h. get_or-map (λ j. bit (word n p ++ word n q) j) (half_places n k low high) i 0 false (omega (arith, length-half_places n k low high))
-      ∙ ap (bit (word n p ++ word n q)) (place_of_half n k low high i h) ∙ bit_of_pair n i p q (is_upper k low high i) h)
+    ∙ ap (bit (word n p ++ word n q)) (place_of_half n k low high i h) ∙ bit_of_pair n i p q (is_upper k low high i) h)
 
 pub value-half_of : (n k : ℕ) (low high : Bool) (p q : ℕ → Bool) (pair : Formula) (vs ts named : List Word) → value_of pair vs ts named ≡ word n p ++ word n q
     → value_of (half_of n k low high pair) vs ts named ≡ word n (λ i. if is_upper k low high i then q i else p i)

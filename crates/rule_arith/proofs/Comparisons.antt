@@ -1,16 +1,15 @@
 -- The exact taint of $lt, $le, $ge and $gt.
-use Rattle.std.specs.Prelude.{ℕ, max, ◌<◌, ◌≤◌, ◌≡◌, ◌≢◌, Bool, true, false, not, ◌&&◌, ◌||◌, ◌==◌, List, [], ◌∷◌, length, ℤ, ◌≤ℤ◌, int_lt, int_le, refl}
+use Rattle.std.specs.Prelude.{ℕ, ◌≤◌, ◌≡◌, Bool, true, false, not, List, [], ◌∷◌, length, ℤ, ◌≤ℤ◌, int_lt, refl}
 use Rattle.std.proofs.Common.{arith, sym, ap, ◌∙◌}
 use Rattle.std.proofs.lemmas.Int.{ints}
-use Rattle.cif_defs.specs.Completions.{AllComplete, CanDiffer, Completes, IsExact, of_two}
+use Rattle.cif_defs.specs.Completions.{AllComplete, Completes, IsExact, of_two}
 use Rattle.cif_defs.specs.Meanings.{compared, ge_word, gt_word, le_word, lt_word}
-use Rattle.cif_defs.specs.Words.{Word, extend, extended_bit, flag_word, int_number, operand, word, xor}
-use Rattle.cif_defs.proofs.WordLaws.{length-word}
+use Rattle.cif_defs.specs.Words.{Word, flag_word, int_number, operand, xor}
 use Rattle.cif_defs.proofs.Exact.{true_by}
 use Rattle.cif_defs.proofs.Numbers.{Le}
-use Rattle.cif_defs.proofs.WordNumbers.{compared-numbers, compared_le, int_number-extend}
-use Rattle.rule_arith.specs.Bounds.{is_upper, order_start}
-use Rattle.rule_arith.proofs.Limits.{at_bound, limit_completes}
+use Rattle.cif_defs.proofs.WordNumbers.{compared-numbers, compared_le}
+use Rattle.rule_arith.specs.Bounds.{order_start}
+use Rattle.rule_arith.proofs.Limits.{limit_completes}
 use Rattle.rule_arith.proofs.OrderLimits.{greatest_number, greatest_word, least_number, least_word}
 use Rattle.rule_arith.proofs.Pairs.{Decides, IsOfTwo, flag_exact, of_both, of_exchanged}
 use Rattle.rule_arith.proofs.SumRules.{not_xor, xor_none}
@@ -56,17 +55,17 @@ less_decides m signed f vs ts a ta b tb e g some_a some_b few_a few_b s =
       all = λ d. true_by (xor high low) (λ off. d.differ (value_at d.first d.first_completes (xor_off high low off) ∙ sym (value_at d.second d.second_completes (xor_off high low off))));
     }
   where
-  value_at : (us : List Word) → AllComplete vs ts us
-      → compared int_lt signed (least_word m signed a ta) (greatest_word m signed b tb) ≡ compared int_lt signed (greatest_word m signed a ta) (least_word m signed b tb)
-      → f us ≡ compared int_lt signed (greatest_word m signed a ta) (least_word m signed b tb)
-  value_at us c same =
-      let u : Word = s.first us in
-      let w : Word = s.second us in
-      let cu : Completes a ta u = s.first_completes us c in
-      let cw : Completes b tb w = s.second_completes us c in
-      s.split us ∙ squeezed (compared int_lt signed (greatest_word m signed a ta) (least_word m signed b tb)) (compared int_lt signed u w) (compared int_lt signed (least_word m signed a ta) (greatest_word m signed b tb))
-      (less_between signed (greatest_word m signed a ta) u (least_word m signed b tb) w (greatest_number m signed a ta u e some_a few_a cu) (least_number m signed b tb w g some_b few_b cw))
-      (less_between signed u (least_word m signed a ta) w (greatest_word m signed b tb) (least_number m signed a ta u e some_a few_a cu) (greatest_number m signed b tb w g some_b few_b cw)) same
+    value_at : (us : List Word) → AllComplete vs ts us
+        → compared int_lt signed (least_word m signed a ta) (greatest_word m signed b tb) ≡ compared int_lt signed (greatest_word m signed a ta) (least_word m signed b tb)
+        → f us ≡ compared int_lt signed (greatest_word m signed a ta) (least_word m signed b tb)
+    value_at us c same =
+        let u : Word = s.first us in
+        let w : Word = s.second us in
+        let cu : Completes a ta u = s.first_completes us c in
+        let cw : Completes b tb w = s.second_completes us c in
+        s.split us ∙ squeezed (compared int_lt signed (greatest_word m signed a ta) (least_word m signed b tb)) (compared int_lt signed u w) (compared int_lt signed (least_word m signed a ta) (greatest_word m signed b tb))
+        (less_between signed (greatest_word m signed a ta) u (least_word m signed b tb) w (greatest_number m signed a ta u e some_a few_a cu) (least_number m signed b tb w g some_b few_b cw))
+        (less_between signed u (least_word m signed a ta) w (greatest_word m signed b tb) (least_number m signed a ta u e some_a few_a cu) (greatest_number m signed b tb w g some_b few_b cw)) same
 
 -- ---- the four kinds
 

@@ -1,166 +1,23 @@
 -- The exact taint of equality.
-use Rattle.std.specs.Prelude.{ℕ, zero, suc, max, ◌+◌, ◌-◌, ◌^◌, ◌<◌, ◌≤◌, ◌≡◌, ◌≢◌, ◌⊎◌, nat_lt, Bool, true, false, not, ◌&&◌, ◌||◌, if◌then◌else◌, List, [], ◌∷◌, length, set, ℤ, pos, ◌-ℤ◌, refl}
+use Rattle.std.specs.Prelude.{ℕ, ◌<◌, ◌≤◌, ◌≡◌, ◌≢◌, nat_lt, Bool, true, false, not, ◌&&◌, ◌||◌, List, [], ◌∷◌, length, set, refl}
 use Rattle.std.specs.Ordering.{int_eq}
-use Rattle.std.proofs.Common.{arith, sym, ap, ◌∙◌, inl, inr, subst}
-use Rattle.std.proofs.lemmas.Bool.Decides.{Decides-int_eq, nat_tests}
-use Rattle.std.proofs.lemmas.Int.{ints}
-use Rattle.std.proofs.lemmas.List.{get_or_past, get_or-set_same, get_or-set_other, length-set}
+use Rattle.std.proofs.Common.{arith, sym, ap, ◌∙◌, inl, inr}
+use Rattle.std.proofs.lemmas.Bool.Decides.{nat_tests}
+use Rattle.std.proofs.lemmas.List.{get_or-set_same, get_or-set_other, length-set}
 use Rattle.cif_defs.specs.Completions.{AllComplete, CanDiffer, Completes, IsExact, of_two}
 use Rattle.cif_defs.specs.Meanings.{compared, eq_word, ne_word}
-use Rattle.cif_defs.specs.Words.{Word, bit, extend, extended_bit, flag_word, has_one, int_number, number, operand, top, word, word_of, xor}
-use Rattle.cif_defs.proofs.WordLaws.{bit-word, length-word, le_or_lt, past_word, same_words}
+use Rattle.cif_defs.specs.Words.{Word, bit, extended_bit, flag_word, has_one, operand, word, xor}
+use Rattle.cif_defs.proofs.WordLaws.{bit-word, length-word, same_words}
 use Rattle.cif_defs.proofs.Agree.{has_none}
-use Rattle.cif_defs.proofs.Exact.{and_both, bit-extend, differ_cases, ext_in, ext_past, true_by}
+use Rattle.cif_defs.proofs.Exact.{and_both, differ_cases, ext_in, true_by}
 use Rattle.cif_defs.proofs.Numbers.{Le, word-same}
-use Rattle.cif_defs.proofs.Sums.{self_completes}
-use Rattle.cif_defs.proofs.WordNumbers.{compared-numbers, int_number-extend, number_below, word_of-number}
-use Rattle.rule_arith.specs.Bounds.{is_upper, sign_start}
-use Rattle.rule_arith.proofs.Addends.{le_both}
-use Rattle.rule_arith.proofs.Limits.{above_side, at_bound, at_bound_clear, below_side, lies_between, sign_of}
+use Rattle.rule_arith.specs.Bounds.{sign_start}
+use Rattle.rule_arith.proofs.Limits.{at_bound, below_side, lies_between, sign_of}
 use Rattle.rule_arith.proofs.Pairs.{Decides, IsOfTwo, flag_exact, of_both}
 use Rattle.rule_arith.proofs.SumRules.{not_xor, xor_none}
 use Rattle.rule_arith.proofs.Turns.{or_off, or_on}
-
--- ---- words are the same where their numbers are
-
-number_same : (x y : Word) → length x ≡ length y → number x ≡ number y → x ≡ y
-number_same x y e h = sym (word_of-number (length x) x refl) ∙ ap (λ k. word_of (length x) k) h ∙ word_of-number (length x) y (sym e)
-
--- p is the power of 2 above both numbers, which the sign takes away
-signed_same : (x y p : ℕ) (s t : Bool) → x < p → y < p → pos x -ℤ pos (if s then p else 0) ≡ pos y -ℤ pos (if t then p else 0) → x ≡ y
-signed_same x y p true true h k e = omega (arith, ints)
-signed_same x y p true false h k e = omega (arith, ints)
-signed_same x y p false true h k e = omega (arith, ints)
-signed_same x y p false false h k e = omega (arith, ints)
-
-int_same : (signed : Bool) (x y : Word) → length x ≡ length y → int_number signed x ≡ int_number signed y → x ≡ y
-int_same signed x y e h =
-    let small : number x < 2 ^ length x = number_below x in
-    let small_y : number y < 2 ^ length x = (let k : number y < 2 ^ length y = number_below y in let q : 2 ^ length y ≡ 2 ^ length x = ap (λ j. 2 ^ j) (sym e) in omega arith) in
-    let of_y : int_number signed y ≡ pos (number y) -ℤ pos (if signed && top y then 2 ^ length x else 0) = ap (λ j. pos (number y) -ℤ pos (if signed && top y then 2 ^ j else 0)) (sym e) in
-    number_same x y e (signed_same (number x) (number y) (2 ^ length x) (signed && top x) (signed && top y) small small_y (h ∙ of_y))
-
-equal_extended : (m : ℕ) (signed : Bool) (u w : Word) → length u ≤ m → length w ≤ m → compared int_eq signed u w ≡ int_eq (int_number signed (extend m signed u)) (int_number signed (extend m signed w))
-equal_extended m signed u w h k =
-    compared-numbers int_eq signed u w
-    ∙ sym (ap (λ z. int_eq z (int_number signed (extend m signed w))) (int_number-extend m signed u h) ∙ ap (λ z. int_eq (int_number signed u) z) (int_number-extend m signed w k))
-
-same_extended : (m : ℕ) (signed : Bool) (u w : Word) → length u ≤ m → length w ≤ m → compared int_eq signed u w ≡ true → (i : ℕ) → i < m → extended_bit signed i u ≡ extended_bit signed i w
-same_extended m signed u w h k e i l =
-    let x : Word = extend m signed u in
-    let y : Word = extend m signed w in
-    let numbers : int_number signed x ≡ int_number signed y = (Decides-int_eq (int_number signed x) (int_number signed y)).0 (sym (equal_extended m signed u w h k) ∙ e) in
-    let same : x ≡ y = int_same signed x y (length-word m _ ∙ sym (length-word m _)) numbers in
-    sym (bit-extend m signed u i l) ∙ ap (λ (z : Word). bit z i) same ∙ bit-extend m signed w i l
-
-extended_same_back : (m : ℕ) (signed : Bool) (u w : Word) → length u ≤ m → length w ≤ m → ((i : ℕ) → i < m → extended_bit signed i u ≡ extended_bit signed i w) → compared int_eq signed u w ≡ true
-extended_same_back m signed u w h k e =
-    equal_extended m signed u w h k
-    ∙ (Decides-int_eq (int_number signed (extend m signed u)) (int_number signed (extend m signed w))).1 (ap (int_number signed) (word-same m _ _ e))
-
--- ---- whether a word has a one
-
-pub some_one : (w : Word) → has_one w ≡ true → (i : ℕ) × (i < length w) × (bit w i ≡ true)
-some_one [] h = absurd (cc)
-some_one (true ∷ w) h = (0, omega arith, refl)
-some_one (false ∷ w) h = let r = some_one w h in (suc r.0, (let l : r.0 < length w = r.1 in omega arith), r.2)
-
-all_clear : (w : Word) → ((i : ℕ) → i < length w → bit w i ≡ false) → has_one w ≡ false
-all_clear [] h = refl
-all_clear (true ∷ w) h = absurd (let q : true ≡ false = h 0 (omega arith) in cc)
-all_clear (false ∷ w) h = all_clear w (λ i l. h (suc i) (omega arith))
-
--- ---- the bounds of an operand in a case of its sign
-
-abbrev pub side_bit : ℕ → Bool → Word → Word → Bool → Bool → ℕ → Bool
-side_bit m signed v t upper side i = at_bound (is_upper (sign_start m signed (length v)) upper side i) (xor (extended_bit signed i v) false) (extended_bit signed i t)
-
--- places where one must have a bit that both can't have
-abbrev pub clash : ℕ → Bool → Word → Word → Word → Word → Bool → Bool → Word
-clash m signed a ta b tb p q =
-    word m (λ i. (side_bit m signed a ta false p i || side_bit m signed b tb false q i) && not (side_bit m signed a ta true p i && side_bit m signed b tb true q i))
-
-abbrev pub meet : ℕ → Bool → Word → Word → Word → Word → Bool → Bool → Bool
-meet m signed a ta b tb p q = not (has_one (clash m signed a ta b tb p q))
-
-abbrev pub in_case : Bool → (Bool → Bool) → Bool
-in_case split f = if split then f false || f true else f false
-
-abbrev pub equal_rule : ℕ → Bool → Word → Word → Word → Word → Bool
-equal_rule m signed a ta b tb =
-    in_case (nat_lt (sign_start m signed (length a)) m) (λ p. in_case (nat_lt (sign_start m signed (length b)) m) (meet m signed a ta b tb p))
-    && (has_one ta || has_one tb)
-
--- ---- a word between the bounds is that of a completion
-
-pub record LiesWithin (m : ℕ) (signed : Bool) (v t : Word) (side : Bool) (z : ℕ → Bool) : Type 0 where
-  pub above : (i : ℕ) → i < m → Le (side_bit m signed v t false side i) (z i)
-  pub below : (i : ℕ) → i < m → Le (z i) (side_bit m signed v t true side i)
-
-squeezed_at : (m : ℕ) (signed : Bool) (v t : Word) (side : Bool) (z : ℕ → Bool) (i : ℕ) → LiesWithin m signed v t side z → i < m → side_bit m signed v t false side i ≡ side_bit m signed v t true side i → z i ≡ side_bit m signed v t false side i
-squeezed_at m signed v t side z i h l e = le_both (z i) _ _ (h.above i l) (h.below i l) e
-
--- the word of z's lowest bits, as long as v
-abbrev cut_word : Word → (ℕ → Bool) → Word
-cut_word v z = word (length v) z
-
-own_bit : (m : ℕ) (signed : Bool) (v t : Word) (upper side : Bool) (i : ℕ) → length t ≡ length v → i < length v → bit t i ≡ false → side_bit m signed v t upper side i ≡ bit v i
-own_bit m signed v t upper side i e l h =
-    at_bound_clear (is_upper (sign_start m signed (length v)) upper side i) (xor (extended_bit signed i v) false) (extended_bit signed i t) (ext_in signed i (length v) t l e ∙ h)
-    ∙ sym (xor_none (extended_bit signed i v)) ∙ ext_in signed i (length v) v l refl
-
-cut_completes : (m : ℕ) (signed : Bool) (v t : Word) (side : Bool) (z : ℕ → Bool) → length t ≡ length v → length v ≤ m → LiesWithin m signed v t side z → Completes v t (cut_word v z)
-cut_completes m signed v t side z e few h = record {
-  as_long = length-word (length v) z;
-  same = λ i q. elim (le_or_lt i (length v)) [
-    | inl l ↦ bit-word (length v) z i false l
-        ∙ squeezed_at m signed v t side z i h (omega arith) (own_bit m signed v t false side i e l q ∙ sym (own_bit m signed v t true side i e l q))
-        ∙ own_bit m signed v t false side i e l q
-    | inr l ↦ past_word (length v) z i false l ∙ sym (get_or_past v i false l)
-  ];
-}
-
--- from its sign on, an operand whose sign is extended has the same bounds
-sign_start_is : (m : ℕ) (n : ℕ) → n < m → sign_start m true n ≡ n - 1
-sign_start_is m n h = let t : nat_lt n m ≡ true = grind (arith, nat_tests) in ap (λ b. if b then n - 1 else m) t
-
-sign_bit : (m : ℕ) (v t : Word) (upper side : Bool) (i : ℕ) → length t ≡ length v → 1 ≤ length v → length v < m → length v - 1 ≤ i
-    → side_bit m true v t upper side i ≡ at_bound side (xor (bit v (length v - 1)) false) (bit t (length v - 1))
-sign_bit m v t upper side i e some few h =
-    let start : sign_start m true (length v) ≡ length v - 1 = sign_start_is m (length v) few in
-    ap (λ s. at_bound s (xor (extended_bit true i v) false) (extended_bit true i t)) (above_side (sign_start m true (length v)) i upper side (omega arith))
-    ∙ ap (λ x. at_bound side (xor x false) (extended_bit true i t)) (shown v refl) ∙ ap (at_bound side (xor (bit v (length v - 1)) false)) (shown t e)
-  where
-  shown : (w : Word) → length w ≡ length v → extended_bit true i w ≡ bit w (length v - 1)
-  shown w q = elim (le_or_lt i (length v)) [
-    | inl l ↦ ext_in true i (length v) w l q ∙ ap (bit w) (omega arith)
-    | inr l ↦ ext_past true i (length v) w l q ∙ ap (λ k. bit w (k - 1)) q
-  ]
-
-cut_past : (m : ℕ) (signed : Bool) (v t : Word) (side : Bool) (z : ℕ → Bool) (i : ℕ) → length t ≡ length v → 1 ≤ length v → LiesWithin m signed v t side z → i < m → length v ≤ i → extended_bit signed i (cut_word v z) ≡ z i
-cut_past m true v t side z i e some h l past =
-    let k : ℕ = length v - 1 in
-    let long : length (cut_word v z) ≡ length v = length-word (length v) z in
-    let few : length v < m = omega arith in
-    let at_i : z i ≡ at_bound side (xor (bit v k) false) (bit t k) =
-      squeezed_at m true v t side z i h l (sign_bit m v t false side i e some few (omega arith) ∙ sym (sign_bit m v t true side i e some few (omega arith))) ∙ sign_bit m v t false side i e some few (omega arith) in
-    let at_k : z k ≡ at_bound side (xor (bit v k) false) (bit t k) =
-      squeezed_at m true v t side z k h (omega arith) (sign_bit m v t false side k e some few (omega arith) ∙ sym (sign_bit m v t true side k e some few (omega arith))) ∙ sign_bit m v t false side k e some few (omega arith) in
-    ext_past true i (length v) (cut_word v z) past long ∙ ap (λ j. bit (cut_word v z) (j - 1)) long ∙ bit-word (length v) z k false (omega arith) ∙ at_k ∙ sym at_i
-cut_past m false v t side z i e some h l past =
-    let none_v : extended_bit false i v ≡ false = ext_past false i (length v) v past refl in
-    let none_t : extended_bit false i t ≡ false = ext_past false i (length v) t past e in
-    let none : (upper : Bool) → side_bit m false v t upper side i ≡ false =
-      λ upper. at_bound_clear (is_upper (sign_start m false (length v)) upper side i) (xor (extended_bit false i v) false) (extended_bit false i t) none_t ∙ sym (xor_none (extended_bit false i v)) ∙ none_v in
-    ext_past false i (length v) (cut_word v z) past (length-word (length v) z)
-    ∙ sym (squeezed_at m false v t side z i h l (none false ∙ sym (none true)) ∙ none false)
-
--- extended it is that word
-cut_extended : (m : ℕ) (signed : Bool) (v t : Word) (side : Bool) (z : ℕ → Bool) (i : ℕ) → length t ≡ length v → 1 ≤ length v → LiesWithin m signed v t side z → i < m → extended_bit signed i (cut_word v z) ≡ z i
-cut_extended m signed v t side z i e some h l = elim (le_or_lt i (length v)) [
-  | inl x ↦ ext_in signed i (length v) (cut_word v z) x (length-word (length v) z) ∙ bit-word (length v) z i false x
-  | inr x ↦ cut_past m signed v t side z i e some h l x
-]
+use Rattle.rule_arith.proofs.Cuts.{LiesWithin, clash, cut_completes, cut_extended, equal_rule, in_case, meet, side_bit}
+use Rattle.rule_arith.proofs.SameWords.{all_clear, extended_same_back, same_extended, some_one}
 
 -- ---- bounds that meet share a word
 
@@ -170,22 +27,22 @@ no_clash m signed a ta b tb p q i h l =
     sym (bit-word m (λ k. (side_bit m signed a ta false p k || side_bit m signed b tb false q k) && not (side_bit m signed a ta true p k && side_bit m signed b tb true q k)) i false l)
     ∙ has_none (clash m signed a ta b tb p q) (not_true (has_one (clash m signed a ta b tb p q)) h) i
   where
-  not_true : (x : Bool) → not x ≡ true → x ≡ false
-  not_true true h = sym h
-  not_true false h = refl
+    not_true : (x : Bool) → not x ≡ true → x ≡ false
+    not_true true h = sym h
+    not_true false h = refl
 
 both_can : (x y u w : Bool) → ((x || y) && not (u && w)) ≡ false → (x || y) ≡ true → (u ≡ true) × (w ≡ true)
 both_can x y true true h k = (refl, refl)
 both_can x y true false h k = absurd (let q : (x || y) ≡ false = sym (and_true (x || y)) ∙ h in cc)
   where
-  and_true : (b : Bool) → (b && true) ≡ b
-  and_true true = refl
-  and_true false = refl
+    and_true : (b : Bool) → (b && true) ≡ b
+    and_true true = refl
+    and_true false = refl
 both_can x y false w h k = absurd (let q : (x || y) ≡ false = sym (and_true (x || y)) ∙ h in cc)
   where
-  and_true : (b : Bool) → (b && true) ≡ b
-  and_true true = refl
-  and_true false = refl
+    and_true : (b : Bool) → (b && true) ≡ b
+    and_true true = refl
+    and_true false = refl
 
 left_in : (x y : Bool) → Le x (x || y)
 left_in true y e = refl
@@ -242,18 +99,18 @@ in_case_true false f h = (false, h)
 in_case_at : (split : Bool) (f : Bool → Bool) (p : Bool) → (split ≡ false → f p ≡ f false) → f p ≡ true → in_case split f ≡ true
 in_case_at true f true one h = or_right (f false) (f true) h
   where
-  or_right : (x y : Bool) → y ≡ true → (x || y) ≡ true
-  or_right true y h = refl
-  or_right false y h = h
+    or_right : (x y : Bool) → y ≡ true → (x || y) ≡ true
+    or_right true y h = refl
+    or_right false y h = h
 in_case_at true f false one h = or_left (f false) (f true) h
   where
-  or_left : (x y : Bool) → x ≡ true → (x || y) ≡ true
-  or_left true y h = refl
-  or_left false y h = absurd (cc)
+    or_left : (x y : Bool) → x ≡ true → (x || y) ≡ true
+    or_left true y h = refl
+    or_left false y h = absurd (cc)
 in_case_at false f p one h = sym (one refl) ∙ h
 
 module _ (m : ℕ) (signed : Bool) (f : List Word → Bool) (vs ts : List Word) (a ta b tb : Word) (e : length ta ≡ length a) (g : length tb ≡ length b) (some_a : 1 ≤ length a) (some_b : 1 ≤ length b)
-  (few_a : length a ≤ m) (few_b : length b ≤ m) (s : IsOfTwo f vs ts a ta b tb (compared int_eq signed)) where
+    (few_a : length a ≤ m) (few_b : length b ≤ m) (s : IsOfTwo f vs ts a ta b tb (compared int_eq signed)) where
   -- a completion of each, the same when extended
   record Met : Type 0 where
     first : Word
@@ -291,7 +148,7 @@ module _ (m : ℕ) (signed : Bool) (f : List Word → Bool) (vs ts : List Word) 
       let cu : Completes a ta u = flip_completes a ta x.first j x.first_completes h in
       let inside : j < length x.first = (let q : length x.first ≡ length a = x.first_completes.as_long in omega arith) in
       let off : compared int_eq signed u x.second ≡ false = false_by (compared int_eq signed u x.second) (λ on.
-        flip_differs m signed x.first j inside (same_extended m signed u x.second (long_first u cu) (long_second x.second x.second_completes) on j (omega arith) ∙ sym (x.same j (omega arith)))) in
+      flip_differs m signed x.first j inside (same_extended m signed u x.second (long_first u cu) (long_second x.second x.second_completes) on j (omega arith) ∙ sym (x.same j (omega arith)))) in
       record {
         first = s.make x.first x.second;
         second = s.make u x.second;
@@ -306,7 +163,7 @@ module _ (m : ℕ) (signed : Bool) (f : List Word → Bool) (vs ts : List Word) 
       let cw : Completes b tb w = flip_completes b tb x.second j x.second_completes h in
       let inside : j < length x.second = (let q : length x.second ≡ length b = x.second_completes.as_long in omega arith) in
       let off : compared int_eq signed x.first w ≡ false = false_by (compared int_eq signed x.first w) (λ on.
-        flip_differs m signed x.second j inside (sym (same_extended m signed x.first w (long_first x.first x.first_completes) (long_second w cw) on j (omega arith)) ∙ x.same j (omega arith))) in
+      flip_differs m signed x.second j inside (sym (same_extended m signed x.first w (long_first x.first x.first_completes) (long_second w cw) on j (omega arith)) ∙ x.same j (omega arith))) in
       record {
         first = s.make x.first x.second;
         second = s.make x.first w;
@@ -328,9 +185,9 @@ module _ (m : ℕ) (signed : Bool) (f : List Word → Bool) (vs ts : List Word) 
       let q = in_case_true (nat_lt (sign_start m signed (length b)) m) (meet m signed a ta b tb p.0) p.1 in
       some_changed (met_at p.0 q.0 q.1) parts.1
     where
-    and_parts : (x y : Bool) → (x && y) ≡ true → (x ≡ true) × (y ≡ true)
-    and_parts true y h = (refl, h)
-    and_parts false y h = absurd (cc)
+      and_parts : (x y : Bool) → (x && y) ≡ true → (x ≡ true) × (y ≡ true)
+      and_parts true y h = (refl, h)
+      and_parts false y h = absurd (cc)
 
   -- completions that are the same show a case in which the bounds meet
   clash_none : (x0 y0 x1 y1 z : Bool) → Le x0 z → Le z x1 → Le y0 z → Le z y1 → ((x0 || y0) && not (x1 && y1)) ≡ false
@@ -349,12 +206,12 @@ module _ (m : ℕ) (signed : Bool) (f : List Word → Bool) (vs ts : List Word) 
       let p : Bool = sign_of false a u in
       let q : Bool = sign_of false b w in
       ap not (all_clear (clash m signed a ta b tb p q) (λ i l.
-        let h : i < m = (let k : length (clash m signed a ta b tb p q) ≡ m = length-word m _ in omega arith) in
-        let x = lies_between m signed false a ta u i e some_a cu h in
-        let y = lies_between m signed false b tb w i g some_b cw h in
-        let same : xor (extended_bit signed i w) false ≡ xor (extended_bit signed i u) false = ap (λ z. xor z false) (sym (same_extended m signed u w (long_first u cu) (long_second w cw) on i h)) in
-        bit-word m (λ k. (side_bit m signed a ta false p k || side_bit m signed b tb false q k) && not (side_bit m signed a ta true p k && side_bit m signed b tb true q k)) i false h
-        ∙ clash_none _ _ _ _ (xor (extended_bit signed i u) false) x.above x.below (le_same _ _ _ same y.above) (same_le _ _ _ same y.below)))
+      let h : i < m = (let k : length (clash m signed a ta b tb p q) ≡ m = length-word m _ in omega arith) in
+      let x = lies_between m signed false a ta u i e some_a cu h in
+      let y = lies_between m signed false b tb w i g some_b cw h in
+      let same : xor (extended_bit signed i w) false ≡ xor (extended_bit signed i u) false = ap (λ z. xor z false) (sym (same_extended m signed u w (long_first u cu) (long_second w cw) on i h)) in
+      bit-word m (λ k. (side_bit m signed a ta false p k || side_bit m signed b tb false q k) && not (side_bit m signed a ta true p k && side_bit m signed b tb true q k)) i false h
+      ∙ clash_none _ _ _ _ (xor (extended_bit signed i u) false) x.above x.below (le_same _ _ _ same y.above) (same_le _ _ _ same y.below)))
 
   one_side : (v t : Word) (upper p : Bool) (i : ℕ) → nat_lt (sign_start m signed (length v)) m ≡ false → i < m → side_bit m signed v t upper p i ≡ side_bit m signed v t upper false i
   one_side v t upper p i h l =
@@ -383,12 +240,12 @@ module _ (m : ℕ) (signed : Bool) (f : List Word → Bool) (vs ts : List Word) 
   some_taint d = true_by (has_one ta || has_one tb) (λ off.
       let none = or_off (has_one ta) (has_one tb) off in
       let same : (us : List Word) → AllComplete vs ts us → f us ≡ compared int_eq signed a b = λ us c.
-        s.split us ∙ ap (λ (w : Word). compared int_eq signed w (s.second us)) (only_one a ta (s.first us) (s.first_completes us c) none.0)
-        ∙ ap (λ (w : Word). compared int_eq signed a w) (only_one b tb (s.second us) (s.second_completes us c) none.1) in
+      s.split us ∙ ap (λ (w : Word). compared int_eq signed w (s.second us)) (only_one a ta (s.first us) (s.first_completes us c) none.0)
+      ∙ ap (λ (w : Word). compared int_eq signed a w) (only_one b tb (s.second us) (s.second_completes us c) none.1) in
       d.differ (same d.first d.first_completes ∙ sym (same d.second d.second_completes)))
     where
-    only_one : (v t u : Word) → Completes v t u → has_one t ≡ false → u ≡ v
-    only_one v t u c h = same_words u v c.as_long (λ i l. c.same i (has_none t h i))
+      only_one : (v t u : Word) → Completes v t u → has_one t ≡ false → u ≡ v
+      only_one v t u c h = same_words u v c.as_long (λ i l. c.same i (has_none t h i))
 
   equal_case : (us : List Word) → AllComplete vs ts us → f us ≡ true
       → in_case (nat_lt (sign_start m signed (length a)) m) (λ p. in_case (nat_lt (sign_start m signed (length b)) m) (meet m signed a ta b tb p)) ≡ true

@@ -1,6 +1,6 @@
 -- The formulas of $eq, $ne, $eqx and $nex are the taint of their cells.
-use Rattle.std.specs.Prelude.{ℕ, max, ◌+◌, ◌<◌, ◌≤◌, ◌≡◌, ◌==◌, nat_lt, Bool, true, false, not, ◌&&◌, ◌||◌, if◌then◌else◌, List, [], ◌∷◌, ◌++◌, length, Some, slice_get, refl}
-use Rattle.std.proofs.Common.{arith, sym, ap, ◌∙◌}
+use Rattle.std.specs.Prelude.{ℕ, max, ◌+◌, ◌≤◌, ◌≡◌, ◌==◌, nat_lt, Bool, true, false, not, ◌&&◌, ◌||◌, List, [], ◌∷◌, ◌++◌, length, Some, slice_get, refl}
+use Rattle.std.proofs.Common.{arith, ap, ◌∙◌}
 use Rattle.cif_defs.specs.Cells.{Cell, binary, both_signed, number_of, words_by, y_width}
 use Rattle.cif_defs.specs.Fitted.{IsFitted, operand_widths}
 use Rattle.cif_defs.specs.Kinds.{is_coarse}
@@ -8,7 +8,7 @@ use Rattle.cif_defs.specs.Meanings.{eq_word, ne_word, reduce_or_word}
 use Rattle.cif_defs.specs.Table.{operands_of, outputs_of, width_limit}
 use Rattle.cif_defs.specs.Weights.{weight, weight_by}
 use Rattle.cif_defs.specs.Words.{Word, bit, extended_bit, flag_word, has_one, operand, word, xor}
-use Rattle.cif_defs.specs.declared.kinds.Kind.TheVariants.{Eq, Eqx, Ne, Nex, Mem}
+use Rattle.cif_defs.specs.declared.kinds.Kind.TheVariants.{Eq, Eqx, Ne, Nex}
 use Rattle.cif_defs.specs.declared.kinds.Param.TheVariants.{AWidth, BWidth}
 use Rattle.cif_term.specs.CellTaints.{AreTaintsOf}
 use Rattle.cif_term.specs.Formulas.{Bound, Formula, IsFormed, One, Taint, Two, value_of}
@@ -23,7 +23,8 @@ use Rattle.rule_arith.specs.EqualFormulas.{either_case, equal_bit, equal_taint, 
 use Rattle.rule_arith.specs.SumFormulas.{of_pair}
 use Rattle.rule_arith.proofs.BinaryCells.{IsBinary, RowIsExact, binary_cell, pair_taint}
 use Rattle.rule_arith.proofs.BoundValues.{value-bound, value-bounds}
-use Rattle.rule_arith.proofs.EqualRules.{clash, eq_exact, equal_rule, in_case, meet, ne_exact, side_bit}
+use Rattle.rule_arith.proofs.Cuts.{clash, equal_rule, in_case, meet, side_bit}
+use Rattle.rule_arith.proofs.EqualRules.{eq_exact, ne_exact}
 use Rattle.rule_arith.proofs.Forming.{formed_bounds, formed_half, one_more, two_more}
 use Rattle.rule_arith.proofs.OrderTaints.{value-flag}
 use Rattle.rule_arith.proofs.SumTaints.{forms_taint, forms_value, gives_plain, gives_taint}
@@ -68,10 +69,10 @@ value-meets_at m signed a ta b tb vs ts named e f p q =
     let b1 : Formula = half_of m k true q (Bound 0) in
     value-no (has_one (clash m signed a ta b tb p q)) (One ReduceOr (Two And (Two Or a0 b0) (One Not (Two And a1 b1)))) vs ts named
     (value-some (has_one (clash m signed a ta b tb p q)) (clash m signed a ta b tb p q) (Two And (Two Or a0 b0) (One Not (Two And a1 b1))) vs ts named
-      (value-and m (λ i. side_bit m signed a ta false p i || side_bit m signed b tb false q i) (λ i. not (side_bit m signed a ta true p i && side_bit m signed b tb true q i)) (Two Or a0 b0) (One Not (Two And a1 b1)) vs ts named
-        (value-or m (side_bit m signed a ta false p) (side_bit m signed b tb false q) a0 b0 vs ts named (value-side m signed a ta false p (Bound 1) vs ts named e) (value-side m signed b tb false q (Bound 0) vs ts named f))
-        (value-not m (λ i. side_bit m signed a ta true p i && side_bit m signed b tb true q i) (Two And a1 b1) vs ts named
-          (value-and m (side_bit m signed a ta true p) (side_bit m signed b tb true q) a1 b1 vs ts named (value-side m signed a ta true p (Bound 1) vs ts named e) (value-side m signed b tb true q (Bound 0) vs ts named f)))) refl)
+    (value-and m (λ i. side_bit m signed a ta false p i || side_bit m signed b tb false q i) (λ i. not (side_bit m signed a ta true p i && side_bit m signed b tb true q i)) (Two Or a0 b0) (One Not (Two And a1 b1)) vs ts named
+    (value-or m (side_bit m signed a ta false p) (side_bit m signed b tb false q) a0 b0 vs ts named (value-side m signed a ta false p (Bound 1) vs ts named e) (value-side m signed b tb false q (Bound 0) vs ts named f))
+    (value-not m (λ i. side_bit m signed a ta true p i && side_bit m signed b tb true q i) (Two And a1 b1) vs ts named
+    (value-and m (side_bit m signed a ta true p) (side_bit m signed b tb true q) a1 b1 vs ts named (value-side m signed a ta true p (Bound 1) vs ts named e) (value-side m signed b tb true q (Bound 0) vs ts named f)))) refl)
 
 value-equal_bit : (m : ℕ) (signed : Bool) (a ta b tb : Word) → length ta ≡ length a → length tb ≡ length b → 1 ≤ length a → 1 ≤ length b
     → value_of (equal_bit m signed (length a) (length b)) (a ∷ b ∷ []) (ta ∷ tb ∷ []) [] ≡ flag_word 1 (equal_rule m signed a ta b tb)
@@ -84,12 +85,12 @@ value-equal_bit m signed a ta b tb e f some_a some_b =
     let second : Word = value_of (bounds (operand_word m signed (length b) 1) (operand_taint m signed (length b) 1)) vs ts (first ∷ []) in
     let inner : List Word = second ∷ first ∷ [] in
     let of_first : first ≡ bound_pair m signed a ta = value-bounds m (λ i. xor (extended_bit signed i a) false) (λ i. extended_bit signed i ta) (operand_word m signed (length a) 0) (operand_taint m signed (length a) 0) vs ts []
-      (gives_plain m (length a) signed 0 vs ts refl some_a []) (gives_taint m (length a) signed 0 vs ts e some_a []) in
+    (gives_plain m (length a) signed 0 vs ts refl some_a []) (gives_taint m (length a) signed 0 vs ts e some_a []) in
     let of_second : second ≡ bound_pair m signed b tb = value-bounds m (λ i. xor (extended_bit signed i b) false) (λ i. extended_bit signed i tb) (operand_word m signed (length b) 1) (operand_taint m signed (length b) 1) vs ts (first ∷ [])
-      (gives_plain m (length b) signed 1 vs ts refl some_b (first ∷ [])) (gives_taint m (length b) signed 1 vs ts f some_b (first ∷ [])) in
+    (gives_plain m (length b) signed 1 vs ts refl some_b (first ∷ [])) (gives_taint m (length b) signed 1 vs ts f some_b (first ∷ [])) in
     value-both (in_case (nat_lt j m) (λ p. in_case (nat_lt k m) (meet m signed a ta b tb p))) (has_one ta || has_one tb) (meets m j k) (Two Or (One ReduceOr (Taint 0)) (One ReduceOr (Taint 1))) vs ts inner
     (value-case (nat_lt j m) (λ p. either_case (nat_lt k m) (meets_at m j k p)) (λ p. in_case (nat_lt k m) (meet m signed a ta b tb p)) vs ts inner
-      (λ p. value-case (nat_lt k m) (meets_at m j k p) (meet m signed a ta b tb p) vs ts inner (value-meets_at m signed a ta b tb vs ts inner of_first of_second p)))
+    (λ p. value-case (nat_lt k m) (meets_at m j k p) (meet m signed a ta b tb p) vs ts inner (value-meets_at m signed a ta b tb vs ts inner of_first of_second p)))
     (value-either (has_one ta) (has_one tb) (One ReduceOr (Taint 0)) (One ReduceOr (Taint 1)) vs ts inner (value-some (has_one ta) ta (Taint 0) vs ts inner refl refl) (value-some (has_one tb) tb (Taint 1) vs ts inner refl refl))
 
 equal_row : (n : ℕ) (signed : Bool) (a ta b tb : Word) → length ta ≡ length a → length tb ≡ length b → 1 ≤ length a → 1 ≤ length b
@@ -106,8 +107,8 @@ formed_meets_at ws m j k some few p q =
     let first : IsFormed (Bound 1) ws inner (m + m) 0 = formed_bound ws inner 1 (m + m) refl (omega arith) (omega arith) in
     let second : IsFormed (Bound 0) ws inner (m + m) 0 = formed_bound ws inner 0 (m + m) refl (omega arith) (omega arith) in
     one_more Not (omega arith) (one_more ReduceOr few (two_more And few (λ e. absurd (cc))
-      (two_more Or few (λ e. absurd (cc)) (formed_half j false p some few first) (formed_half k false q some few second))
-      (one_more Not few (two_more And few (λ e. absurd (cc)) (formed_half j true p some few first) (formed_half k true q some few second)))))
+    (two_more Or few (λ e. absurd (cc)) (formed_half j false p some few first) (formed_half k false q some few second))
+    (one_more Not few (two_more And few (λ e. absurd (cc)) (formed_half j true p some few first) (formed_half k true q some few second)))))
 
 formed_either : (split : Bool) (f : Bool → Formula) (ws named : List ℕ) (k : ℕ) → ((p : Bool) → IsFormed (f p) ws named 1 k) → IsFormed (either_case split f) ws named 1 (k + k + 1)
 formed_either true f ws named k h = two_more Or (omega arith) (λ e. absurd (cc)) (h false) (h true)
@@ -121,11 +122,11 @@ formed_equal_bit ws m signed a b at_a at_b some_a some_b few_a few_b few =
     let some : 1 ≤ m = omega arith in
     raised 37
     (formed_let (formed_bounds some few (forms_value ws m a signed 0 at_a some_a (omega arith) some few []) (forms_taint ws m a signed 0 at_a some_a (omega arith) some few []))
-      (formed_let (formed_bounds some few (forms_value ws m b signed 1 at_b some_b (omega arith) some few ((m + m) ∷ [])) (forms_taint ws m b signed 1 at_b some_b (omega arith) some few ((m + m) ∷ [])))
-        (two_more And (omega arith) (λ e. absurd (cc))
-          (formed_either (nat_lt j m) (λ p. either_case (nat_lt k m) (meets_at m j k p)) ws inner 13 (λ p. formed_either (nat_lt k m) (meets_at m j k p) ws inner 6 (formed_meets_at ws m j k some few p)))
-          (two_more Or (omega arith) (λ e. absurd (cc))
-            (one_more ReduceOr (omega arith) (formed_taint ws inner 0 a at_a some_a (omega arith))) (one_more ReduceOr (omega arith) (formed_taint ws inner 1 b at_b some_b (omega arith)))))))
+    (formed_let (formed_bounds some few (forms_value ws m b signed 1 at_b some_b (omega arith) some few ((m + m) ∷ [])) (forms_taint ws m b signed 1 at_b some_b (omega arith) some few ((m + m) ∷ [])))
+    (two_more And (omega arith) (λ e. absurd (cc))
+    (formed_either (nat_lt j m) (λ p. either_case (nat_lt k m) (meets_at m j k p)) ws inner 13 (λ p. formed_either (nat_lt k m) (meets_at m j k p) ws inner 6 (formed_meets_at ws m j k some few p)))
+    (two_more Or (omega arith) (λ e. absurd (cc))
+    (one_more ReduceOr (omega arith) (formed_taint ws inner 0 a at_a some_a (omega arith))) (one_more ReduceOr (omega arith) (formed_taint ws inner 1 b at_b some_b (omega arith)))))))
     (omega arith)
 
 equal_formed : (c : Cell) → IsBinary c 4096 → IsFormed (of_pair equal_taint c) (operand_widths c) [] (y_width c) 37
@@ -135,7 +136,7 @@ equal_formed c b =
     let few_b : number_of c BWidth ≤ 4096 = b.few_b in
     formed_extended (y_width c) 1 false
     (formed_equal_bit (operand_widths c) (max (number_of c AWidth) (number_of c BWidth)) (both_signed c) (number_of c AWidth) (number_of c BWidth) (ap (λ ws. slice_get ws 0) b.widths) (ap (λ ws. slice_get ws 1) b.widths)
-      b.some_a b.some_b (omega arith) (omega arith) (omega arith))
+    b.some_a b.some_b (omega arith) (omega arith) (omega arith))
     (omega arith) b.some_y (omega arith)
 
 eq_row_exact : RowIsExact eq_word equal_taint

@@ -1,7 +1,7 @@
 -- The widths and the costs of formulas of bounds and cases.
-use Rattle.std.specs.Prelude.{ℕ, zero, suc, ◌+◌, ◌*◌, ◌<◌, ◌≤◌, ◌≡◌, nat_lt, Bool, true, false, List, [], ◌∷◌, length, if◌then◌else◌, refl, Some, slice_get}
+use Rattle.std.specs.Prelude.{ℕ, zero, suc, ◌+◌, ◌*◌, ◌<◌, ◌≤◌, ◌≡◌, nat_lt, Bool, true, false, List, ◌∷◌, if◌then◌else◌, refl}
 use Rattle.std.specs.List.{list_all, range_with_len}
-use Rattle.std.proofs.Common.{arith, sym, ap, ◌∙◌}
+use Rattle.std.proofs.Common.{arith, ap, ◌∙◌}
 use Rattle.std.proofs.lemmas.Bool.Decides.{nat_tests}
 use Rattle.std.proofs.lemmas.List.Folds.{list_all-map}
 use Rattle.cif_defs.specs.Words.{zeros}
@@ -10,7 +10,7 @@ use Rattle.cif_term.specs.declared.ops.Op1.{Op1}
 use Rattle.cif_term.specs.declared.ops.Op1.TheVariants.{Not, ReduceAnd, ReduceOr, ReduceXor}
 use Rattle.cif_term.specs.declared.ops.Op2.{Op2}
 use Rattle.cif_term.specs.declared.ops.Op2.TheVariants.{And, Or, Xor, Add, Mul, Div, LessUnsigned, LessSigned, Equal}
-use Rattle.cif_term.specs.Formulas.{Formula, Const, Pick, Join, One, Two, Bound, Let, IsFormed, is_on_numbers, joined_pieces, one_cost, one_width, pieces, two_cost, two_width}
+use Rattle.cif_term.specs.Formulas.{Formula, One, Two, IsFormed, is_on_numbers, joined_pieces, one_cost, one_width, pieces, two_cost, two_width}
 use Rattle.cif_term.proofs.Forms.{formed_bound, formed_const, formed_join, formed_let, formed_one, formed_pick, formed_two, pieces_narrow, raised}
 use Rattle.rule_arith.specs.Bounds.{bounds, half_of, half_places, is_upper, taint_below}
 use Rattle.rule_arith.specs.Cases.{case_taint, cases_taint, joined, second_taint}
@@ -115,6 +115,6 @@ pub formed_sum_formula : (f t g u : Formula) (ws : List ℕ) (n j k : ℕ) → 1
 formed_sum_formula f t g u ws n j k some h a b c d named =
     let inner : List ℕ = (n + n) ∷ (n + n) ∷ named in
     raised 37 (formed_let (formed_bounds some (omega arith) (a named) (b named)) (formed_let (formed_bounds some (omega arith) (c ((n + n) ∷ named)) (d ((n + n) ∷ named)))
-      (two_more Or (omega arith) (λ e. absurd (cc))
-        (two_more Or (omega arith) (λ e. absurd (cc)) (formed_below j some (omega arith) (b inner)) (formed_below k some (omega arith) (d inner)))
-        (formed_cases (nat_lt j n) (nat_lt k n) (sum_at (plain_sums n j k)) ws inner n 1 (omega arith) (formed_sum_at ws named n j k some h))))) (omega arith)
+    (two_more Or (omega arith) (λ e. absurd (cc))
+    (two_more Or (omega arith) (λ e. absurd (cc)) (formed_below j some (omega arith) (b inner)) (formed_below k some (omega arith) (d inner)))
+    (formed_cases (nat_lt j n) (nat_lt k n) (sum_at (plain_sums n j k)) ws inner n 1 (omega arith) (formed_sum_at ws named n j k some h))))) (omega arith)

@@ -12,9 +12,14 @@ pub mod Pairs
 pub mod Comparisons
 pub mod OrderTaints
 pub mod OwnTaints
+pub mod LastBit
 pub mod AluRules
+pub mod AluCarries
 pub mod AluValues
 pub mod AluTaints
+pub mod SameWords
+pub mod Cuts
 pub mod EqualRules
 pub mod EqualTaints
 pub mod ArithTaints
+pub mod SingleBits

@@ -1,5 +1,5 @@
 -- The bounds of an operand as completions of it, and what lies between them.
-use Rattle.std.specs.Prelude.{ℕ, ◌+◌, ◌-◌, ◌<◌, ◌≤◌, ◌≡◌, ◌≢◌, ◌⊎◌, nat_lt, Bool, true, false, not, ◌&&◌, ◌||◌, length, set, if◌then◌else◌, refl}
+use Rattle.std.specs.Prelude.{ℕ, ◌-◌, ◌<◌, ◌≤◌, ◌≡◌, ◌≢◌, ◌⊎◌, nat_lt, Bool, true, false, not, ◌&&◌, ◌||◌, length, set, if◌then◌else◌, refl}
 use Rattle.std.proofs.Common.{arith, sym, ap, ◌∙◌, inl, inr}
 use Rattle.std.proofs.lemmas.Bool.Decides.{nat_tests}
 use Rattle.std.proofs.lemmas.List.{get_or_past, get_or-set_same, get_or-set_other, length-set}
@@ -134,7 +134,7 @@ shown_alike k i j signed low high inv v t s e h shows =
 
 pub extended_limit : (n : ℕ) (signed low high inv : Bool) (v t : Word) (i : ℕ) → length t ≡ length v → 1 ≤ length v → i < n
     → xor (extended_bit signed i (limit (xor low inv) (xor high inv) (sign_start n signed (length v)) v t)) inv
-      ≡ at_bound (is_upper (sign_start n signed (length v)) low high i) (xor (extended_bit signed i v) inv) (extended_bit signed i t)
+    ≡ at_bound (is_upper (sign_start n signed (length v)) low high i) (xor (extended_bit signed i v) inv) (extended_bit signed i t)
 extended_limit n signed low high inv v t i e some l =
     let k : ℕ = sign_start n signed (length v) in
     let u : Word = limit (xor low inv) (xor high inv) k v t in
@@ -143,7 +143,7 @@ extended_limit n signed low high inv v t i e some l =
         | inl x ↦ shown_alike k i i signed low high inv v t (is_upper k low high i) e refl (λ w q. ext_in signed i (length v) w x q)
         | inr x ↦ ap (λ b. xor b inv) (no_sign signed i (length v) u x.0 x.1 (length-word (length v) _))
             ∙ sym (at_bound_clear (is_upper k low high i) (xor (extended_bit signed i v) inv) (extended_bit signed i t) (no_sign signed i (length v) t x.0 x.1 e)
-              ∙ ap (λ b. xor b inv) (no_sign signed i (length v) v x.0 x.1 refl))
+            ∙ ap (λ b. xor b inv) (no_sign signed i (length v) v x.0 x.1 refl))
       ]
       | inr h ↦ shown_alike k i (length v - 1) signed low high inv v t (is_upper k low high i) e
           (elim (start_cases n signed (length v)) [
@@ -215,7 +215,7 @@ lies_above n signed inv v t u i e some c l h =
     let agree : ti ≡ false → y ≡ x = λ q. ap (λ b. xor b inv) (extended_same signed i v t u e c q) in
     let sign : y ≡ sign_of inv v u = ap (λ b. xor b inv) (sign_shown n signed (length v) i u h l some c.as_long) in
     let one : (low : Bool) → at_bound (is_upper k low (sign_of inv v u) i) x ti ≡ y =
-        λ low. ap (λ b. at_bound b x ti) (above_side k i low (sign_of inv v u) h) ∙ at_side (sign_of inv v u) x ti y agree sign in
+    λ low. ap (λ b. at_bound b x ti) (above_side k i low (sign_of inv v u) h) ∙ at_side (sign_of inv v u) x ti y agree sign in
     record { above = same_le _ _ (one false); below = same_le _ _ (sym (one true)); same = λ q low. one low }
 
 pub lies_between : (n : ℕ) (signed inv : Bool) (v t u : Word) (i : ℕ) → length t ≡ length v → 1 ≤ length v → Completes v t u → i < n → LiesBetween n signed inv v t u (sign_of inv v u) i

@@ -1,12 +1,12 @@
 -- The completions of an operand with the least and the greatest number, signed or not.
-use Rattle.std.specs.Prelude.{ℕ, zero, suc, ◌+◌, ◌-◌, ◌*◌, ◌^◌, ◌<◌, ◌≤◌, ◌≡◌, ◌⊎◌, Bool, true, false, not, ◌&&◌, ◌||◌, [], ◌∷◌, length, take, drop, if◌then◌else◌, pos, ◌-ℤ◌, ◌≤ℤ◌, refl, int_lt, ℤ}
+use Rattle.std.specs.Prelude.{ℕ, zero, suc, ◌+◌, ◌-◌, ◌*◌, ◌^◌, ◌<◌, ◌≤◌, ◌≡◌, Bool, true, false, [], ◌∷◌, length, take, drop, if◌then◌else◌, pos, ◌-ℤ◌, ◌≤ℤ◌, refl}
 use Rattle.std.proofs.Common.{arith, sym, ap, ◌∙◌, inl, inr, length-drop, length-take}
 use Rattle.std.proofs.lemmas.Int.{ints}
 use Rattle.std.proofs.lemmas.List.{get_or-take, get_or_past}
 use Rattle.std.proofs.Math.Nat.{pow-succ'}
 use Rattle.cif_defs.specs.Completions.{Completes}
 use Rattle.cif_defs.specs.Words.{Word, bit, bit_value, extend, extended_bit, int_number, number, top, word}
-use Rattle.cif_defs.proofs.WordLaws.{bit-word, length-word, le_or_lt}
+use Rattle.cif_defs.proofs.WordLaws.{length-word, le_or_lt}
 use Rattle.cif_defs.proofs.Numbers.{Le, number_mono, number_split, word-same}
 use Rattle.cif_defs.proofs.Exact.{ext_in, ext_past}
 use Rattle.rule_arith.specs.Bounds.{is_upper, order_start}
@@ -74,7 +74,7 @@ signed_le v w e some low high =
     let signs : sign_part (bit w k) k ≤ sign_part (bit v k) k = sign_le (bit v k) (bit w k) k high in
     let of_v : int_number true v ≡ pos (number (take k v)) -ℤ pos (sign_part (bit v k) k) = int_top_by v (bit v k) some refl in
     let of_w : int_number true w ≡ pos (number (take k w)) -ℤ pos (sign_part (bit w k) k) =
-      int_top_by w (bit w k) (omega arith) (ap (bit w) same) ∙ ap (λ j. pos (number (take j w)) -ℤ pos (sign_part (bit w k) j)) same in
+    int_top_by w (bit w k) (omega arith) (ap (bit w) same) ∙ ap (λ j. pos (number (take j w)) -ℤ pos (sign_part (bit w k) j)) same in
     omega (arith, ints)
 
 unsigned_is : (w : Word) → int_number false w ≡ pos (number w)
@@ -137,7 +137,7 @@ order_cases m true low high v t i e some l h =
     ext_past true i (length v) u h long ∙ ap (λ j. bit u (j - 1)) long ∙ bit-limit low high k v t k e
     ∙ ap (λ s. at_bound s (bit v k) (bit t k)) (above_side k k low high (omega arith) ∙ sym (above_side k i low high (omega arith)))
     ∙ sym (ap (λ x. at_bound (is_upper k low high i) x (extended_bit true i t)) (ext_past true i (length v) v h refl)
-      ∙ ap (λ x. at_bound (is_upper k low high i) (bit v k) x) (ext_past true i (length v) t h e ∙ ap (λ j. bit t (j - 1)) e))
+    ∙ ap (λ x. at_bound (is_upper k low high i) (bit v k) x) (ext_past true i (length v) t h e ∙ ap (λ j. bit t (j - 1)) e))
 order_cases m false low high v t i e some l h =
     let u : Word = limit low high m v t in
     ext_past false i (length v) u h (length-word (length v) _)
@@ -149,7 +149,7 @@ order_bit m signed low high v t i e some l = elim (le_or_lt i (length v)) [
   | inl h ↦ (let k : ℕ = order_start m signed (length v) in
       ext_in signed i (length v) (limit low high k v t) h (length-word (length v) _) ∙ bit-limit low high k v t i e
       ∙ sym (ap (λ x. at_bound (is_upper k low high i) x (extended_bit signed i t)) (ext_in signed i (length v) v h refl)
-        ∙ ap (λ x. at_bound (is_upper k low high i) (bit v i) x) (ext_in signed i (length v) t h e)))
+      ∙ ap (λ x. at_bound (is_upper k low high i) (bit v i) x) (ext_in signed i (length v) t h e)))
   | inr h ↦ order_cases m signed low high v t i e some l h
 ]
 

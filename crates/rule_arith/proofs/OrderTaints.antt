@@ -1,6 +1,6 @@
 -- The formulas of $lt, $le, $ge and $gt are the taint of their cells.
-use Rattle.std.specs.Prelude.{ℕ, zero, suc, max, ◌+◌, ◌<◌, ◌≤◌, ◌≡◌, Bool, true, false, not, ◌&&◌, ◌||◌, ◌==◌, List, [], ◌∷◌, ◌++◌, length, Some, slice_get, int_lt, refl}
-use Rattle.std.proofs.Common.{arith, sym, ap, ◌∙◌, subst}
+use Rattle.std.specs.Prelude.{ℕ, zero, suc, max, ◌+◌, ◌≤◌, ◌≡◌, Bool, true, false, not, ◌&&◌, ◌||◌, ◌==◌, List, [], ◌∷◌, ◌++◌, length, Some, slice_get, int_lt, refl}
+use Rattle.std.proofs.Common.{arith, sym, ap, ◌∙◌}
 use Rattle.std.proofs.lemmas.Bool.Decides.{nat_tests}
 use Rattle.cif_defs.specs.Cells.{Cell, binary, both_signed, number_of, words_by, y_width}
 use Rattle.cif_defs.specs.Fitted.{IsFitted, operand_widths}
@@ -8,16 +8,15 @@ use Rattle.cif_defs.specs.Kinds.{is_coarse}
 use Rattle.cif_defs.specs.Meanings.{compared, ge_word, gt_word, le_word, lt_word}
 use Rattle.cif_defs.specs.Table.{operands_of, outputs_of, width_limit}
 use Rattle.cif_defs.specs.Weights.{weight, weight_by}
-use Rattle.cif_defs.specs.Words.{Word, bit, extend, extended_bit, flag_word, int_number, operand, word, xor}
-use Rattle.cif_defs.specs.declared.kinds.Kind.{Kind}
-use Rattle.cif_defs.specs.declared.kinds.Kind.TheVariants.{Lt, Le, Ge, Gt, Mem}
+use Rattle.cif_defs.specs.Words.{Word, extend, extended_bit, flag_word, int_number, operand, word, xor}
+use Rattle.cif_defs.specs.declared.kinds.Kind.TheVariants.{Lt, Le, Ge, Gt}
 use Rattle.cif_defs.specs.declared.kinds.Param.TheVariants.{AWidth, BWidth}
 use Rattle.cif_defs.proofs.Numbers.{word-same}
-use Rattle.cif_defs.proofs.WordLaws.{bit-word, length-word}
+use Rattle.cif_defs.proofs.WordLaws.{length-word}
 use Rattle.cif_defs.proofs.WordNumbers.{compared-numbers, int_number-extend}
 use Rattle.cif_term.specs.CellTaints.{AreTaintsOf}
 use Rattle.cif_term.specs.Extended.{extended}
-use Rattle.cif_term.specs.Formulas.{Bound, Formula, IsFormed, Two, Value, Taint, two_width, value_of}
+use Rattle.cif_term.specs.Formulas.{Bound, Formula, IsFormed, Two, value_of}
 use Rattle.cif_term.specs.declared.ops.Op2.TheVariants.{LessSigned, LessUnsigned, Xor}
 use Rattle.cif_term.proofs.CellTaints.{one_output}
 use Rattle.cif_term.proofs.Forms.{formed_bound, formed_extended, formed_let, raised}
@@ -26,14 +25,13 @@ use Rattle.rule_arith.specs.Bounds.{bounds, greatest_of, half_of, least_of, orde
 use Rattle.rule_arith.specs.OrderFormulas.{greater_taint, less_bit, less_op, less_taint}
 use Rattle.rule_arith.specs.Addends.{operand_taint, operand_word}
 use Rattle.rule_arith.specs.SumFormulas.{of_pair}
-use Rattle.rule_arith.proofs.BinaryCells.{IsBinary, RowIsExact, binary_cell, pair_taint}
+use Rattle.rule_arith.proofs.BinaryCells.{IsBinary, binary_cell, pair_taint}
 use Rattle.rule_arith.proofs.BoundValues.{value-bound, value-bounds}
 use Rattle.rule_arith.proofs.Comparisons.{ge_exact, gt_exact, le_exact, less_rule, lt_exact}
 use Rattle.rule_arith.proofs.Forming.{formed_bounds, formed_half, two_more}
 use Rattle.rule_arith.proofs.Limits.{limit}
 use Rattle.rule_arith.proofs.OrderLimits.{extended_order, greatest_word, least_word}
 use Rattle.rule_arith.proofs.SumTaints.{at_first, at_second, forms_taint, forms_value, gives_taint, gives_value}
-use Rattle.rule_arith.proofs.SumValues.{Gives}
 
 -- ---- flags
 
@@ -87,19 +85,19 @@ value-less_bit m signed p q vs ts a ta b tb of_a of_ta of_b of_tb e f some_a som
     let second : Word = value_of (bounds (operand_word m signed (length b) q) (operand_taint m signed (length b) q)) vs ts (first ∷ []) in
     let inner : List Word = second ∷ first ∷ [] in
     let pair_a : first ≡ word m (λ i. extended_bit signed i a && not (extended_bit signed i ta)) ++ word m (λ i. extended_bit signed i a || extended_bit signed i ta) =
-      value-bounds m (λ i. extended_bit signed i a) (λ i. extended_bit signed i ta) (operand_word m signed (length a) p) (operand_taint m signed (length a) p) vs ts []
-      (gives_value m (length a) signed p vs ts (ap length of_a) some_a [] ∙ ap (extend m signed) of_a) (gives_taint m (length a) signed p vs ts (ap length of_ta ∙ e) some_a [] ∙ ap (extend m signed) of_ta) in
+    value-bounds m (λ i. extended_bit signed i a) (λ i. extended_bit signed i ta) (operand_word m signed (length a) p) (operand_taint m signed (length a) p) vs ts []
+    (gives_value m (length a) signed p vs ts (ap length of_a) some_a [] ∙ ap (extend m signed) of_a) (gives_taint m (length a) signed p vs ts (ap length of_ta ∙ e) some_a [] ∙ ap (extend m signed) of_ta) in
     let pair_b : second ≡ word m (λ i. extended_bit signed i b && not (extended_bit signed i tb)) ++ word m (λ i. extended_bit signed i b || extended_bit signed i tb) =
-      value-bounds m (λ i. extended_bit signed i b) (λ i. extended_bit signed i tb) (operand_word m signed (length b) q) (operand_taint m signed (length b) q) vs ts (first ∷ [])
-      (gives_value m (length b) signed q vs ts (ap length of_b) some_b (first ∷ []) ∙ ap (extend m signed) of_b) (gives_taint m (length b) signed q vs ts (ap length of_tb ∙ f) some_b (first ∷ []) ∙ ap (extend m signed) of_tb) in
+    value-bounds m (λ i. extended_bit signed i b) (λ i. extended_bit signed i tb) (operand_word m signed (length b) q) (operand_taint m signed (length b) q) vs ts (first ∷ [])
+    (gives_value m (length b) signed q vs ts (ap length of_b) some_b (first ∷ []) ∙ ap (extend m signed) of_b) (gives_taint m (length b) signed q vs ts (ap length of_tb ∙ f) some_b (first ∷ []) ∙ ap (extend m signed) of_tb) in
     value-xor 1 (λ i. i == 0 && compared int_lt signed (least_word m signed a ta) (greatest_word m signed b tb)) (λ i. i == 0 && compared int_lt signed (greatest_word m signed a ta) (least_word m signed b tb))
-      (Two (less_op signed) (least_of m j (Bound 1)) (greatest_of m k (Bound 0))) (Two (less_op signed) (greatest_of m j (Bound 1)) (least_of m k (Bound 0))) vs ts inner
-      (value-less m signed (least_word m signed a ta) (greatest_word m signed b tb) (least_of m j (Bound 1)) (greatest_of m k (Bound 0)) vs ts inner
-        (limit_short false true j m a ta few_a) (limit_short true false k m b tb few_b)
-        (value-order m signed false true a ta (Bound 1) vs ts inner e some_a pair_a) (value-order m signed true false b tb (Bound 0) vs ts inner f some_b pair_b))
-      (value-less m signed (greatest_word m signed a ta) (least_word m signed b tb) (greatest_of m j (Bound 1)) (least_of m k (Bound 0)) vs ts inner
-        (limit_short true false j m a ta few_a) (limit_short false true k m b tb few_b)
-        (value-order m signed true false a ta (Bound 1) vs ts inner e some_a pair_a) (value-order m signed false true b tb (Bound 0) vs ts inner f some_b pair_b))
+    (Two (less_op signed) (least_of m j (Bound 1)) (greatest_of m k (Bound 0))) (Two (less_op signed) (greatest_of m j (Bound 1)) (least_of m k (Bound 0))) vs ts inner
+    (value-less m signed (least_word m signed a ta) (greatest_word m signed b tb) (least_of m j (Bound 1)) (greatest_of m k (Bound 0)) vs ts inner
+    (limit_short false true j m a ta few_a) (limit_short true false k m b tb few_b)
+    (value-order m signed false true a ta (Bound 1) vs ts inner e some_a pair_a) (value-order m signed true false b tb (Bound 0) vs ts inner f some_b pair_b))
+    (value-less m signed (greatest_word m signed a ta) (least_word m signed b tb) (greatest_of m j (Bound 1)) (least_of m k (Bound 0)) vs ts inner
+    (limit_short true false j m a ta few_a) (limit_short false true k m b tb few_b)
+    (value-order m signed true false a ta (Bound 1) vs ts inner e some_a pair_a) (value-order m signed false true b tb (Bound 0) vs ts inner f some_b pair_b))
     ∙ flag_xor (compared int_lt signed (least_word m signed a ta) (greatest_word m signed b tb)) (compared int_lt signed (greatest_word m signed a ta) (least_word m signed b tb))
 
 less_row : (n : ℕ) (signed : Bool) (a ta b tb : Word) → length ta ≡ length a → length tb ≡ length b → 1 ≤ length a → 1 ≤ length b
@@ -118,10 +116,6 @@ greater_row n signed a ta b tb e f some_a some_b =
 
 -- ---- widths and costs
 
-less_small : (signed : Bool) (n : ℕ) → two_width (less_op signed) n ≡ 1
-less_small true n = refl
-less_small false n = refl
-
 formed_less : {f g : Formula} {ws named : List ℕ} {m j k : ℕ} (signed : Bool) → m ≤ 128 → IsFormed f ws named m j → IsFormed g ws named m k → IsFormed (Two (less_op signed) f g) ws named 1 (j + k + 1)
 formed_less true h x y = two_more LessSigned (omega arith) (λ e. h) x y
 formed_less false h x y = two_more LessUnsigned (omega arith) (λ e. h) x y
@@ -136,10 +130,10 @@ formed_less_bit ws m signed a p b q at_a at_b some_a some_b few_a few_b few =
     let short : m ≤ 4096 = omega arith in
     raised 9
     (formed_let (formed_bounds some short (forms_value ws m a signed p at_a some_a (omega arith) some short []) (forms_taint ws m a signed p at_a some_a (omega arith) some short []))
-      (formed_let (formed_bounds some short (forms_value ws m b signed q at_b some_b (omega arith) some short ((m + m) ∷ [])) (forms_taint ws m b signed q at_b some_b (omega arith) some short ((m + m) ∷ [])))
-        (two_more Xor (omega arith) (λ e. absurd (cc))
-          (formed_less signed few (formed_half (order_start m signed a) false true some short first) (formed_half (order_start m signed b) true false some short second))
-          (formed_less signed few (formed_half (order_start m signed a) true false some short first) (formed_half (order_start m signed b) false true some short second)))))
+    (formed_let (formed_bounds some short (forms_value ws m b signed q at_b some_b (omega arith) some short ((m + m) ∷ [])) (forms_taint ws m b signed q at_b some_b (omega arith) some short ((m + m) ∷ [])))
+    (two_more Xor (omega arith) (λ e. absurd (cc))
+    (formed_less signed few (formed_half (order_start m signed a) false true some short first) (formed_half (order_start m signed b) true false some short second))
+    (formed_less signed few (formed_half (order_start m signed a) true false some short first) (formed_half (order_start m signed b) false true some short second)))))
     (omega arith)
 
 less_formed : (c : Cell) → IsBinary c 128 → IsFormed (of_pair less_taint c) (operand_widths c) [] (y_width c) 9
@@ -181,7 +175,7 @@ lt_taints c h e =
     let heavy : weight c ≡ 40 = ap (λ k. weight_by k c) e ∙ lt_weight c in
     one_output c (of_pair less_taint c) (ap length b.one_output)
     (pair_taint c 128 9 lt_word less_taint b (ap is_coarse e) (λ us. ap (λ k. words_by k c us) e ∙ lt_words c us)
-      (λ n signed a ta d td some p q some_a some_d. lt_exact n (max (length a) (length d)) signed a ta d td _ p q some_a some_d (omega arith) (omega arith) (less_row n signed a ta d td p q some_a some_d)) formed)
+    (λ n signed a ta d td some p q some_a some_d. lt_exact n (max (length a) (length d)) signed a ta d td _ p q some_a some_d (omega arith) (omega arith) (less_row n signed a ta d td p q some_a some_d)) formed)
     (let k = formed.cost in omega arith)
 
 -- ---- $ge
@@ -205,7 +199,7 @@ ge_taints c h e =
     let heavy : weight c ≡ 40 = ap (λ k. weight_by k c) e ∙ ge_weight c in
     one_output c (of_pair less_taint c) (ap length b.one_output)
     (pair_taint c 128 9 ge_word less_taint b (ap is_coarse e) (λ us. ap (λ k. words_by k c us) e ∙ ge_words c us)
-      (λ n signed a ta d td some p q some_a some_d. ge_exact n (max (length a) (length d)) signed a ta d td _ p q some_a some_d (omega arith) (omega arith) (less_row n signed a ta d td p q some_a some_d)) formed)
+    (λ n signed a ta d td some p q some_a some_d. ge_exact n (max (length a) (length d)) signed a ta d td _ p q some_a some_d (omega arith) (omega arith) (less_row n signed a ta d td p q some_a some_d)) formed)
     (let k = formed.cost in omega arith)
 
 -- ---- $gt
@@ -229,7 +223,7 @@ gt_taints c h e =
     let heavy : weight c ≡ 40 = ap (λ k. weight_by k c) e ∙ gt_weight c in
     one_output c (of_pair greater_taint c) (ap length b.one_output)
     (pair_taint c 128 9 gt_word greater_taint b (ap is_coarse e) (λ us. ap (λ k. words_by k c us) e ∙ gt_words c us)
-      (λ n signed a ta d td some p q some_a some_d. gt_exact n (max (length a) (length d)) signed a ta d td _ p q some_a some_d (omega arith) (omega arith) (greater_row n signed a ta d td p q some_a some_d)) formed)
+    (λ n signed a ta d td some p q some_a some_d. gt_exact n (max (length a) (length d)) signed a ta d td _ p q some_a some_d (omega arith) (omega arith) (greater_row n signed a ta d td p q some_a some_d)) formed)
     (let k = formed.cost in omega arith)
 
 -- ---- $le
@@ -253,5 +247,5 @@ le_taints c h e =
     let heavy : weight c ≡ 40 = ap (λ k. weight_by k c) e ∙ le_weight c in
     one_output c (of_pair greater_taint c) (ap length b.one_output)
     (pair_taint c 128 9 le_word greater_taint b (ap is_coarse e) (λ us. ap (λ k. words_by k c us) e ∙ le_words c us)
-      (λ n signed a ta d td some p q some_a some_d. le_exact n (max (length a) (length d)) signed a ta d td _ p q some_a some_d (omega arith) (omega arith) (greater_row n signed a ta d td p q some_a some_d)) formed)
+    (λ n signed a ta d td some p q some_a some_d. le_exact n (max (length a) (length d)) signed a ta d td _ p q some_a some_d (omega arith) (omega arith) (greater_row n signed a ta d td p q some_a some_d)) formed)
     (let k = formed.cost in omega arith)

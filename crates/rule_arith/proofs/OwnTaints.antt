@@ -1,7 +1,7 @@
 -- The formula of $neg is the taint of its cell.
 use Rattle.std.specs.Prelude.{ℕ, suc, ◌≤◌, ◌≡◌, ◌≢◌, ◌==◌, ◌&&◌, Bool, true, false, List, [], ◌∷◌, map, length, get_or, Some, slice_get, refl}
 use Rattle.std.proofs.Common.{arith, sym, ap, ◌∙◌, subst}
-use Rattle.cif_defs.specs.Cells.{Cell, a_signed, meaning, number_of, unary, words_by, y_width}
+use Rattle.cif_defs.specs.Cells.{Cell, a_signed, number_of, unary, words_by, y_width}
 use Rattle.cif_defs.specs.Completions.{IsExact, of_one}
 use Rattle.cif_defs.specs.Fitted.{AllWithin, IsFitted, IsWithin, operand_widths, row_width}
 use Rattle.cif_defs.specs.Kinds.{is_coarse}
@@ -13,19 +13,18 @@ use Rattle.cif_defs.specs.declared.kinds.CellPort.TheVariants.{A, Y}
 use Rattle.cif_defs.specs.declared.kinds.Kind.{Kind}
 use Rattle.cif_defs.specs.declared.kinds.Kind.TheVariants.{Mem, Neg}
 use Rattle.cif_defs.specs.declared.kinds.Param.TheVariants.{AWidth, YWidth}
-use Rattle.cif_defs.specs.declared.kinds.PortRow.{PortRow}
 use Rattle.cif_defs.proofs.WordLaws.{length-word}
 use Rattle.cif_term.specs.CellTaints.{AreTaintsOf, IsTaintOf, output_width}
 use Rattle.cif_term.specs.Extended.{extended}
-use Rattle.cif_term.specs.Formulas.{Const, Formula, IsFormed, One, value_of}
+use Rattle.cif_term.specs.Formulas.{Const, IsFormed, One, value_of}
 use Rattle.cif_term.specs.declared.ops.Op1.TheVariants.{Not}
 use Rattle.cif_term.proofs.CellTaints.{exact_taint, one_output}
-use Rattle.cif_term.proofs.Forms.{formed_const, formed_extended, raised}
+use Rattle.cif_term.proofs.Forms.{formed_const, formed_extended}
 use Rattle.rule_arith.specs.Addends.{operand_taint, operand_word}
 use Rattle.rule_arith.specs.Bounds.{sign_start}
 use Rattle.rule_arith.specs.SumFormulas.{neg_taint, of_own}
 use Rattle.rule_arith.proofs.BinaryCells.{y_output}
-use Rattle.rule_arith.proofs.Forming.{Forms, formed_sum_formula, one_more}
+use Rattle.rule_arith.proofs.Forming.{formed_sum_formula, one_more}
 use Rattle.rule_arith.proofs.OrderTaints.{value-flag}
 use Rattle.rule_arith.proofs.SumRules.{neg_exact, own_rule}
 use Rattle.rule_arith.proofs.SumTaints.{forms_taint, forms_value, gives_complement, gives_taint}
@@ -128,9 +127,9 @@ neg_means : (c : Cell) → c.kind ≡ Neg → IsUnary c 128 → IsTaintOf c 0 (o
 neg_means c e b = record {
   formed = (neg_formed c b).width ∙ ap Some (sym (y_output c b.one_output));
   means = λ vs ts hv ht.
-    exact_taint c 0 (of_one (neg_word (y_width c) (a_signed c))) vs ts (value_of (of_own neg_taint c) vs ts []) (ap is_coarse e)
-    (λ i us. ap (λ (ws : List Word). bit (operand ws 0) i) (ap (λ k. words_by k c us) e ∙ neg_words c us))
-    (neg_exact_at c b vs ts (own_of_words (number_of c AWidth) vs (hv ∙ b.widths)) (own_of_words (number_of c AWidth) ts (ht ∙ b.widths)));
+      exact_taint c 0 (of_one (neg_word (y_width c) (a_signed c))) vs ts (value_of (of_own neg_taint c) vs ts []) (ap is_coarse e)
+      (λ i us. ap (λ (ws : List Word). bit (operand ws 0) i) (ap (λ k. words_by k c us) e ∙ neg_words c us))
+      (neg_exact_at c b vs ts (own_of_words (number_of c AWidth) vs (hv ∙ b.widths)) (own_of_words (number_of c AWidth) ts (ht ∙ b.widths)));
 }
 
 pub neg_taints : (c : Cell) → IsFitted c → c.kind ≡ Neg → AreTaintsOf c (of_own neg_taint c ∷ [])

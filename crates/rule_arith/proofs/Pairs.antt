@@ -1,11 +1,11 @@
 -- Functions of operand words that depend on two words, and flags: one bit, and zeros above it.
-use Rattle.std.specs.Prelude.{ℕ, zero, suc, ◌<◌, ◌≡◌, ◌≢◌, Bool, true, false, not, ◌&&◌, ◌==◌, List, [], ◌∷◌, length, refl}
+use Rattle.std.specs.Prelude.{ℕ, zero, suc, ◌<◌, ◌≡◌, Bool, true, false, ◌&&◌, ◌==◌, List, [], ◌∷◌, length, refl}
 use Rattle.std.proofs.Common.{arith, sym, ap, ◌∙◌}
 use Rattle.std.proofs.lemmas.Bool.Decides.{nat_tests}
 use Rattle.cif_defs.specs.Completions.{AllComplete, CanDiffer, Completes, IsExact}
 use Rattle.cif_defs.specs.Words.{Word, bit, flag_word, operand, xor}
 use Rattle.cif_defs.proofs.WordLaws.{bit-word, length-word}
-use Rattle.cif_defs.proofs.Exact.{cons_complete, nil_complete, true_by}
+use Rattle.cif_defs.proofs.Exact.{cons_complete, nil_complete}
 use Rattle.rule_arith.proofs.Turns.{xor_cancel}
 
 -- f gives h of two words, each of which completes its own

@@ -1,19 +1,19 @@
 -- The exact taint of $add, $sub and $neg, and of the sum of $alu.
-use Rattle.std.specs.Prelude.{ℕ, zero, suc, ◌+◌, ◌-◌, ◌*◌, ◌<◌, ◌≤◌, ◌≡◌, nat_lt, Bool, true, false, not, ◌&&◌, ◌||◌, ◌==◌, List, [], ◌∷◌, length, pos, neg_ℤ, ◌-ℤ◌, set, refl}
+use Rattle.std.specs.Prelude.{ℕ, zero, suc, ◌+◌, ◌*◌, ◌<◌, ◌≤◌, ◌≡◌, nat_lt, Bool, true, false, not, ◌&&◌, ◌||◌, ◌==◌, [], ◌∷◌, length, pos, neg_ℤ, ◌-ℤ◌, refl}
 use Rattle.std.proofs.Common.{arith, sym, ap, ◌∙◌, inl, inr}
 use Rattle.std.proofs.lemmas.Bool.Decides.{nat_tests}
 use Rattle.std.proofs.lemmas.Int.{ints}
-use Rattle.cif_defs.specs.Completions.{AllComplete, CanDiffer, Completes, IsExact, of_one, of_two}
-use Rattle.cif_defs.specs.Meanings.{add_word, alu_operand, alu_sum_word, neg_word, sub_word}
+use Rattle.cif_defs.specs.Completions.{AllComplete, Completes, IsExact, of_one, of_two}
+use Rattle.cif_defs.specs.Meanings.{add_word, alu_operand, neg_word, sub_word}
 use Rattle.cif_defs.specs.Words.{Word, bit, bit_value, extend, extended_bit, flag_word, int_word_of, majority, number, operand, word, word_of, xor, zeros}
 use Rattle.cif_defs.proofs.WordLaws.{bit-word, length-word, le_or_lt, past_word}
 use Rattle.cif_defs.proofs.Exact.{cons_complete, nil_complete}
 use Rattle.cif_defs.proofs.Numbers.{int_word_of-difference, number_zero, word-same, word-suc}
-use Rattle.cif_defs.proofs.SumExact.{add_is_sum, alu_is_sum, operand_bit, sub_is_sum}
+use Rattle.cif_defs.proofs.SumExact.{add_is_sum, operand_bit, sub_is_sum}
 use Rattle.cif_defs.proofs.Sums.{bit-ripple, carry, self_completes, sum_bit, word_of-sum}
 use Rattle.rule_arith.specs.Bounds.{is_upper, sign_start}
-use Rattle.rule_arith.proofs.Addends.{IsAddend, IsCarry, IsSumOf, constant_addend, constant_carry, operand_addend, sum_spread}
-use Rattle.rule_arith.proofs.Limits.{at_bound, at_bound_clear, bit-limit, bound_word, limit, limit_completes}
+use Rattle.rule_arith.proofs.Addends.{IsSumOf, constant_addend, constant_carry, operand_addend, sum_spread}
+use Rattle.rule_arith.proofs.Limits.{at_bound, at_bound_clear, bound_word}
 use Rattle.rule_arith.proofs.Turns.{cases_turn, spread_exact}
 
 -- ---- complements
@@ -25,10 +25,6 @@ not_xor false = refl
 pub xor_none : (x : Bool) → x ≡ xor x false
 xor_none true = refl
 xor_none false = refl
-
-not_twice : (x : Bool) → not (not x) ≡ x
-not_twice true = refl
-not_twice false = refl
 
 majority_not : (x y c : Bool) → majority (not x) (not y) (not c) ≡ not (majority x y c)
 majority_not true true true = refl
@@ -67,14 +63,14 @@ sum_complement c x x' y y' i p q =
 operand_not : (n : ℕ) (signed inv : Bool) (w : Word) (k : ℕ) → k < n → bit (alu_operand n signed (not inv) w) k ≡ not (bit (alu_operand n signed inv w) k)
 operand_not n signed true w k l = operand_bit n signed false w k l ∙ by_bit (extended_bit signed k w) ∙ ap not (sym (operand_bit n signed true w k l))
   where
-  by_bit : (b : Bool) → xor b false ≡ not (xor b true)
-  by_bit true = refl
-  by_bit false = refl
+    by_bit : (b : Bool) → xor b false ≡ not (xor b true)
+    by_bit true = refl
+    by_bit false = refl
 operand_not n signed false w k l = operand_bit n signed true w k l ∙ by_bit (extended_bit signed k w) ∙ ap not (sym (operand_bit n signed false w k l))
   where
-  by_bit : (b : Bool) → xor b true ≡ not (xor b false)
-  by_bit true = refl
-  by_bit false = refl
+    by_bit : (b : Bool) → xor b true ≡ not (xor b false)
+    by_bit true = refl
+    by_bit false = refl
 
 -- ---- rows of two operands
 
@@ -115,8 +111,8 @@ pair_exact n signed inv turned row a ta b tb w e f some_a some_b h q =
     spread_exact n (of_two row) (a ∷ b ∷ []) (ta ∷ tb ∷ []) turned (λ i. stands_single n signed a ta i || stands_single n signed b tb i) (has_sides n signed a) (has_sides n signed b)
     (λ i upper p q. sum_bit false (bound_word n signed inv a ta upper p) (bound_word n signed false b tb upper q) i) w
     (λ i l. sum_spread n i (of_two row i) (a ∷ b ∷ []) (ta ∷ tb ∷ []) a ta b tb [] [] (alu_operand n signed inv) (alu_operand n signed false) (λ u. false) turned _ _ _ _ _ _ _
-      (operand_addend n i signed inv a ta e some_a l) (operand_addend n i signed false b tb f some_b l) (constant_carry [] [] false)
-      (row_sum i row a ta b tb (alu_operand n signed inv) (alu_operand n signed false) false turned (λ u w. h u w i l)))
+    (operand_addend n i signed inv a ta e some_a l) (operand_addend n i signed false b tb f some_b l) (constant_carry [] [] false)
+    (row_sum i row a ta b tb (alu_operand n signed inv) (alu_operand n signed false) false turned (λ u w. h u w i l)))
     q
 
 pub add_exact : (n : ℕ) (signed : Bool) (a ta b tb w : Word) → length ta ≡ length a → length tb ≡ length b → 1 ≤ length a → 1 ≤ length b
@@ -130,9 +126,9 @@ pub sub_exact : (n : ℕ) (signed : Bool) (a ta b tb w : Word) → length ta ≡
 sub_exact n signed a ta b tb w e f some_a some_b q =
     pair_exact n signed true true (sub_word n signed) a ta b tb w e f some_a some_b
     (λ u v i l. sub_is_sum n signed u v i l
-      ∙ sum_complement false (alu_operand n signed true u) (alu_operand n signed false u) (alu_operand n signed false v) (alu_operand n signed true v) i
-        (λ k m. operand_not n signed true u k (omega arith)) (λ k m. operand_not n signed false v k (omega arith))
-      ∙ not_xor _) q
+    ∙ sum_complement false (alu_operand n signed true u) (alu_operand n signed false u) (alu_operand n signed false v) (alu_operand n signed true v) i
+    (λ k m. operand_not n signed true u k (omega arith)) (λ k m. operand_not n signed false v k (omega arith))
+    ∙ not_xor _) q
 
 -- ---- $neg
 
@@ -207,6 +203,6 @@ neg_exact n signed a ta w e some q =
     spread_exact n (of_one (neg_word n signed)) (a ∷ []) (ta ∷ []) false (λ i. stands_single n signed a ta i || (nat_lt i n && false)) (has_sides n signed a) (nat_lt n n)
     (λ i upper p q. sum_bit false (bound_word n signed true a ta upper p) (unit_bound n upper q) i) w
     (λ i l. sum_spread n i (of_one (neg_word n signed) i) (a ∷ []) (ta ∷ []) a ta [] [] [] [] (alu_operand n signed true) (λ u. flag_word n true) (λ u. false) false _ _ _ _ _ _ _
-      (operand_addend n i signed true a ta e some l) (constant_addend n i [] [] (flag_word n true) (nat_lt i n && false) (nat_lt n n) (unit_bound n) (and_false (nat_lt i n)) (unit_is n)) (constant_carry [] [] false)
-      (own_sum i (neg_word n signed) a ta (alu_operand n signed true) (flag_word n true) (λ u. neg_is_sum n signed u i l)))
+    (operand_addend n i signed true a ta e some l) (constant_addend n i [] [] (flag_word n true) (nat_lt i n && false) (nat_lt n n) (unit_bound n) (and_false (nat_lt i n)) (unit_is n)) (constant_carry [] [] false)
+    (own_sum i (neg_word n signed) a ta (alu_operand n signed true) (flag_word n true) (λ u. neg_is_sum n signed u i l)))
     q

@@ -1,18 +1,17 @@
 -- The formulas of $add and $sub are the taint of their cells.
-use Rattle.std.specs.Prelude.{ℕ, ◌≤◌, ◌≡◌, ◌≢◌, Bool, true, false, not, List, [], ◌∷◌, length, Some, slice_get, refl}
-use Rattle.std.proofs.Common.{arith, sym, ap, ◌∙◌, subst}
-use Rattle.cif_defs.specs.Cells.{Cell, binary, both_signed, meaning, number_of, words_by, y_width}
+use Rattle.std.specs.Prelude.{ℕ, ◌≤◌, ◌≡◌, Bool, true, false, List, [], ◌∷◌, length, Some, slice_get, refl}
+use Rattle.std.proofs.Common.{arith, ap, ◌∙◌}
+use Rattle.cif_defs.specs.Cells.{Cell, binary, both_signed, number_of, words_by, y_width}
 use Rattle.cif_defs.specs.Fitted.{IsFitted, operand_widths}
 use Rattle.cif_defs.specs.Kinds.{is_coarse}
 use Rattle.cif_defs.specs.Meanings.{add_word, sub_word}
-use Rattle.cif_defs.specs.Table.{a_row, b_row, operands_of, outputs_of, width_limit, y_row}
+use Rattle.cif_defs.specs.Table.{operands_of, outputs_of, width_limit}
 use Rattle.cif_defs.specs.Weights.{weight, weight_by}
 use Rattle.cif_defs.specs.Words.{Word, extended_bit, operand, word, xor}
-use Rattle.cif_defs.specs.declared.kinds.CellPort.TheVariants.{A, B, Y}
-use Rattle.cif_defs.specs.declared.kinds.Kind.TheVariants.{Add, Sub, Mem}
+use Rattle.cif_defs.specs.declared.kinds.Kind.TheVariants.{Add, Sub}
 use Rattle.cif_defs.specs.declared.kinds.Param.TheVariants.{AWidth, BWidth}
 use Rattle.cif_defs.proofs.Numbers.{word-same}
-use Rattle.cif_term.specs.CellTaints.{AreTaintsOf, IsTaintOf}
+use Rattle.cif_term.specs.CellTaints.{AreTaintsOf}
 use Rattle.cif_term.specs.Extended.{extended}
 use Rattle.cif_term.specs.Formulas.{Formula, IsFormed, One, Taint, Value, value_of}
 use Rattle.cif_term.specs.declared.ops.Op1.TheVariants.{Not}
@@ -59,9 +58,9 @@ at_second c limit b = ap (λ ws. slice_get ws 1) b.widths
 -- a sum of both operands, of which the first comes by one operation at most
 pair_formed : (c : Cell) (f : Formula) → IsBinary c 128 → Forms f (operand_widths c) (y_width c) 1
     → IsFormed (sum_formula (y_width c) (sign_start (y_width c) (both_signed c) (number_of c AWidth)) (sign_start (y_width c) (both_signed c) (number_of c BWidth))
-      f (operand_taint (y_width c) (both_signed c) (number_of c AWidth) 0)
-      (operand_word (y_width c) (both_signed c) (number_of c BWidth) 1) (operand_taint (y_width c) (both_signed c) (number_of c BWidth) 1))
-      (operand_widths c) [] (y_width c) 37
+    f (operand_taint (y_width c) (both_signed c) (number_of c AWidth) 0)
+    (operand_word (y_width c) (both_signed c) (number_of c BWidth) 1) (operand_taint (y_width c) (both_signed c) (number_of c BWidth) 1))
+    (operand_widths c) [] (y_width c) 37
 pair_formed c f b h =
     let ws : List ℕ = operand_widths c in
     let n : ℕ = y_width c in

@@ -5,7 +5,6 @@ use Rattle.cif_term.specs.declared.ops.Op1.TheVariants.{Not}
 use Rattle.cif_term.specs.declared.ops.Op2.TheVariants.{And, Or, Xor}
 use Rattle.cif_term.specs.Extended.{extended}
 use Rattle.cif_term.specs.Formulas.{Formula, Value, Taint, Const, One, Two}
-use Rattle.rule_arith.specs.declared.operands.Operand.{Operand}
 use Rattle.rule_arith.specs.declared.operands.Addend.{Addend}
 use Rattle.rule_arith.specs.declared.operands.Addend.TheVariants.{Plain, Complement, Unit as UnitAddend, Inverted}
 use Rattle.rule_arith.specs.Bounds.{sign_start}

@@ -23,10 +23,10 @@ carry_bounds n = Join (extended n false 1 (bit_bound 2 false)) (extended n false
 abbrev pub alu_named : ℕ → Bool → ℕ → ℕ → Formula → Formula
 alu_named n signed a b body =
     Let (bounds (addend_word n (Plain (first_operand signed a))) (addend_taint n (Plain (first_operand signed a))))
-      (Let (carry_bounds n)
-        (Let (bounds (addend_word n (Inverted (second_operand signed b) 3 false)) (addend_taint n (Inverted (second_operand signed b) 3 false)))
-          (Let (bounds (addend_word n (Inverted (second_operand signed b) 3 true)) (addend_taint n (Inverted (second_operand signed b) 3 true)))
-            body)))
+    (Let (carry_bounds n)
+    (Let (bounds (addend_word n (Inverted (second_operand signed b) 3 false)) (addend_taint n (Inverted (second_operand signed b) 3 false)))
+    (Let (bounds (addend_word n (Inverted (second_operand signed b) 3 true)) (addend_taint n (Inverted (second_operand signed b) 3 true)))
+    body)))
 
 -- the sums where BI is at a bound, whose signs start at places j and k
 abbrev pub alu_sums : ℕ → ℕ → ℕ → Bool → Sums
@@ -38,8 +38,8 @@ alu_sum_taint n signed a b =
     let s0 : Sums = alu_sums n (sign_start n signed a) (sign_start n signed b) false in
     let s1 : Sums = alu_sums n (sign_start n signed a) (sign_start n signed b) true in
     alu_named n signed a b
-      (Two Or (Two Or (taint_below n (sign_start n signed a) (operand_taint n signed a 0)) (taint_below n (sign_start n signed b) (operand_taint n signed b 1)))
-        (joined (sums_taint s0) (sums_taint s1) (sum_at s0 false false false) (sum_at s1 false false false)))
+    (Two Or (Two Or (taint_below n (sign_start n signed a) (operand_taint n signed a 0)) (taint_below n (sign_start n signed b) (operand_taint n signed b 1)))
+    (joined (sums_taint s0) (sums_taint s1) (sum_at s0 false false false) (sum_at s1 false false false)))
 
 -- the carry out of each place: where both bits are 1, or where one is and the sum is 0
 abbrev pub carries_at : Sums → Bool → Formula
@@ -54,5 +54,5 @@ alu_carry_taint n signed a b =
     let s0 : Sums = alu_sums n n n false in
     let s1 : Sums = alu_sums n n n true in
     alu_named n signed a b
-      (joined (Two Xor (carries_at s0 false) (carries_at s0 true)) (Two Xor (carries_at s1 false) (carries_at s1 true))
-        (carries_at s0 false) (carries_at s1 false))
+    (joined (Two Xor (carries_at s0 false) (carries_at s0 true)) (Two Xor (carries_at s1 false) (carries_at s1 true))
+    (carries_at s0 false) (carries_at s1 false))

@@ -13,8 +13,8 @@ use Rattle.rule_arith.specs.Bounds.{bounds, half_of, sign_start}
 abbrev pub meets_at : ℕ → ℕ → ℕ → Bool → Bool → Formula
 meets_at m j k p q =
     One Not (One ReduceOr (Two And
-      (Two Or (half_of m j false p (Bound 1)) (half_of m k false q (Bound 0)))
-      (One Not (Two And (half_of m j true p (Bound 1)) (half_of m k true q (Bound 0))))))
+    (Two Or (half_of m j false p (Bound 1)) (half_of m k false q (Bound 0)))
+    (One Not (Two And (half_of m j true p (Bound 1)) (half_of m k true q (Bound 0))))))
 
 -- in one of two cases, where there are two
 abbrev pub either_case : Bool → (Bool → Formula) → Formula
@@ -28,8 +28,8 @@ meets m j k = either_case (nat_lt j m) (λ p. either_case (nat_lt k m) (meets_at
 abbrev pub equal_bit : ℕ → Bool → ℕ → ℕ → Formula
 equal_bit m signed a b =
     Let (bounds (operand_word m signed a 0) (operand_taint m signed a 0))
-      (Let (bounds (operand_word m signed b 1) (operand_taint m signed b 1))
-        (Two And (meets m (sign_start m signed a) (sign_start m signed b)) (Two Or (One ReduceOr (Taint 0)) (One ReduceOr (Taint 1)))))
+    (Let (bounds (operand_word m signed b 1) (operand_taint m signed b 1))
+    (Two And (meets m (sign_start m signed a) (sign_start m signed b)) (Two Or (One ReduceOr (Taint 0)) (One ReduceOr (Taint 1)))))
 
 -- $eq, $ne, $eqx and $nex of n bits
 abbrev pub equal_taint : ℕ → Bool → ℕ → ℕ → Formula

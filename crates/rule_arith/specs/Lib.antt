@@ -6,3 +6,4 @@ pub mod OrderFormulas
 pub mod AluFormulas
 pub mod EqualFormulas
 pub mod ArithFormulas
+pub mod SingleBits

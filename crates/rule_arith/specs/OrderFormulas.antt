@@ -15,10 +15,10 @@ less_op signed = if signed then LessSigned else LessUnsigned
 abbrev pub less_bit : ℕ → Bool → ℕ → ℕ → ℕ → ℕ → Formula
 less_bit m signed a p b q =
     Let (bounds (operand_word m signed a p) (operand_taint m signed a p))
-      (Let (bounds (operand_word m signed b q) (operand_taint m signed b q))
-        (Two Xor
-          (Two (less_op signed) (least_of m (order_start m signed a) (Bound 1)) (greatest_of m (order_start m signed b) (Bound 0)))
-          (Two (less_op signed) (greatest_of m (order_start m signed a) (Bound 1)) (least_of m (order_start m signed b) (Bound 0)))))
+    (Let (bounds (operand_word m signed b q) (operand_taint m signed b q))
+    (Two Xor
+    (Two (less_op signed) (least_of m (order_start m signed a) (Bound 1)) (greatest_of m (order_start m signed b) (Bound 0)))
+    (Two (less_op signed) (greatest_of m (order_start m signed a) (Bound 1)) (least_of m (order_start m signed b) (Bound 0)))))
 
 -- $lt and $ge of n bits, whose operands have a and b bits
 abbrev pub less_taint : ℕ → Bool → ℕ → ℕ → Formula

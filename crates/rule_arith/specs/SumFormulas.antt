@@ -22,7 +22,7 @@ with_carry n upper (Some z) f = Two Add f (half_of n n upper upper (Bound z))
 abbrev pub sum_at : Sums → Bool → Bool → Bool → Formula
 sum_at s upper p q =
     with_carry s.width upper s.carry
-      (Two Add (half_of s.width s.first_start upper p (Bound s.first)) (half_of s.width s.second_start upper q (Bound s.second)))
+    (Two Add (half_of s.width s.first_start upper p (Bound s.first)) (half_of s.width s.second_start upper q (Bound s.second)))
 
 abbrev pub sums_taint : Sums → Formula
 sums_taint s = cases_taint (nat_lt s.first_start s.width) (nat_lt s.second_start s.width) (sum_at s)
@@ -32,8 +32,8 @@ sums_taint s = cases_taint (nat_lt s.first_start s.width) (nat_lt s.second_start
 abbrev pub sum_formula : ℕ → ℕ → ℕ → Formula → Formula → Formula → Formula → Formula
 sum_formula n j k f t g u =
     Let (bounds f t) (Let (bounds g u)
-      (Two Or (Two Or (taint_below n j t) (taint_below n k u))
-        (sums_taint (record { width = n; first = 1; first_start = j; second = 0; second_start = k; carry = None }))))
+    (Two Or (Two Or (taint_below n j t) (taint_below n k u))
+    (sums_taint (record { width = n; first = 1; first_start = j; second = 0; second_start = k; carry = None }))))
 
 abbrev pub sum_taint : ℕ → Addend → Addend → Formula
 sum_taint n x y = sum_formula n (addend_start n x) (addend_start n y) (addend_word n x) (addend_taint n x) (addend_word n y) (addend_taint n y)

@@ -31,20 +31,8 @@ fn carry_in(alloc: Global, width: u32) -> Result<Term, NoMemory>
     requires { width ≤ 65536 }
     ensures { IfOk result (λ t. formula_of t ≡ carry_bounds width) }
 {
-    let least = Term::extended(
-        alloc,
-        bound_of_bit(alloc, 2, false)?,
-        1,
-        width,
-        false,
-    )?;
-    let greatest = Term::extended(
-        alloc,
-        bound_of_bit(alloc, 2, true)?,
-        1,
-        width,
-        false,
-    )?;
+    let least = Term::extended(alloc, bound_of_bit(alloc, 2, false)?, 1, width, false)?;
+    let greatest = Term::extended(alloc, bound_of_bit(alloc, 2, true)?, 1, width, false)?;
     Term::join(alloc, least, greatest)
 }
 
@@ -89,18 +77,8 @@ pub fn sum_output(alloc: Global, width: u32, pair: &Pair) -> Result<Term, NoMemo
     let second_start = second.sign_start(width);
     let plain = sums_where(width, first_start, second_start, false);
     let inverted = sums_where(width, first_start, second_start, true);
-    let first_taint = take_below(
-        alloc,
-        width,
-        first_start,
-        first.taint(alloc, width)?,
-    )?;
-    let second_taint = take_below(
-        alloc,
-        width,
-        second_start,
-        second.taint(alloc, width)?,
-    )?;
+    let first_taint = take_below(alloc, width, first_start, first.taint(alloc, width)?)?;
+    let second_taint = take_below(alloc, width, second_start, second.taint(alloc, width)?)?;
     let own = Term::two(alloc, Op2::Or, first_taint, second_taint)?;
     let cases = join(
         alloc,
@@ -122,42 +100,14 @@ fn carries(alloc: Global, sums: &Sums, upper: bool) -> Result<Term, NoMemory>
     let both = Term::two(
         alloc,
         Op2::And,
-        take_half(
-            alloc,
-            width,
-            width,
-            upper,
-            upper,
-            Term::Bound(sums.first),
-        )?,
-        take_half(
-            alloc,
-            width,
-            width,
-            upper,
-            upper,
-            Term::Bound(sums.second),
-        )?,
+        take_half(alloc, width, width, upper, upper, Term::Bound(sums.first))?,
+        take_half(alloc, width, width, upper, upper, Term::Bound(sums.second))?,
     )?;
     let either = Term::two(
         alloc,
         Op2::Or,
-        take_half(
-            alloc,
-            width,
-            width,
-            upper,
-            upper,
-            Term::Bound(sums.first),
-        )?,
-        take_half(
-            alloc,
-            width,
-            width,
-            upper,
-            upper,
-            Term::Bound(sums.second),
-        )?,
+        take_half(alloc, width, width, upper, upper, Term::Bound(sums.first))?,
+        take_half(alloc, width, width, upper, upper, Term::Bound(sums.second))?,
     )?;
     let none = Term::one(alloc, Op1::Not, sums.sum(alloc, upper, upper, upper)?)?;
     let carried = Term::two(alloc, Op2::And, either, none)?;

@@ -51,11 +51,7 @@ pub fn take_half(
     requires { width ≤ 65536 }
     ensures { IfOk result (λ t. formula_of t ≡ half_of width start low high (formula_of pair)) }
 {
-    Term::pick(
-        alloc,
-        pair,
-        places_in_pair(alloc, width, start, low, high)?,
-    )
+    Term::pick(alloc, pair, places_in_pair(alloc, width, start, low, high)?)
 }
 
 /// The taint below place `start`, and zeros from there on.
@@ -96,7 +92,7 @@ pub fn name_bounds(
     requires { width ≤ 65536 }
     ensures { IfOk result (λ t. formula_of t
         ≡ Let (bounds (addend_word width first.now) (addend_taint width first.now))
-            (Let (bounds (addend_word width second.now) (addend_taint width second.now)) (formula_of body))) }
+        (Let (bounds (addend_word width second.now) (addend_taint width second.now)) (formula_of body))) }
 {
     let inner = Term::name(alloc, bounds_of(alloc, width, second)?, body)?;
     Term::name(alloc, bounds_of(alloc, width, first)?, inner)

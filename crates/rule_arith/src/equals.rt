@@ -80,7 +80,7 @@ impl Both {
         requires { self.now.width ≤ 65536 }
         ensures { IfOk result (λ t. formula_of t
             ≡ either_case (nat_lt self.now.second_start self.now.width)
-                (meets_at self.now.width self.now.first_start self.now.second_start first_sign)) }
+            (meets_at self.now.width self.now.first_start self.now.second_start first_sign)) }
     {
         let zero = self.meet(alloc, first_sign, false)?;
         if self.second_start < self.width {

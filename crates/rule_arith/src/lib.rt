@@ -13,6 +13,8 @@ mod operands;
 mod orders;
 mod shadow;
 mod sums;
+#[cfg(test)]
+mod tests;
 
 ghost use Rattle.std.specs.Prelude.{◌≡◌, true, map, IfOk};
 ghost use Rattle.cif_defs.specs.Fitted.{IsFitted};

@@ -24,13 +24,7 @@ impl Operand {
         ensures { IfOk result
             (λ t. formula_of t ≡ operand_word width self.now.signed self.now.bits self.now.port) }
     {
-        Term::extended(
-            alloc,
-            Term::Value(self.port),
-            self.bits,
-            width,
-            self.signed,
-        )
+        Term::extended(alloc, Term::Value(self.port), self.bits, width, self.signed)
     }
 
     /// Its taint, extended.
@@ -39,13 +33,7 @@ impl Operand {
         ensures { IfOk result
             (λ t. formula_of t ≡ operand_taint width self.now.signed self.now.bits self.now.port) }
     {
-        Term::extended(
-            alloc,
-            Term::Taint(self.port),
-            self.bits,
-            width,
-            self.signed,
-        )
+        Term::extended(alloc, Term::Taint(self.port), self.bits, width, self.signed)
     }
 
     /// The place from which its extension shows its sign bit, or the width where it shows it once at most.

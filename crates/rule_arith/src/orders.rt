@@ -44,12 +44,7 @@ fn greatest(alloc: Global, width: u32, operand: &Operand, bound: u32) -> Result<
 
 /// Whether it depends on tainted bits that the first operand is less than the second: it can be less, and it can be not
 /// less.
-fn less(
-    alloc: Global,
-    width: u32,
-    first: &Operand,
-    second: &Operand,
-) -> Result<Term, NoMemory>
+fn less(alloc: Global, width: u32, first: &Operand, second: &Operand) -> Result<Term, NoMemory>
     requires limit { width ≤ 65536 }
     requires alike { second.now.signed ≡ first.now.signed }
     ensures { IfOk result (λ t. formula_of t

@@ -130,6 +130,7 @@ pub fn all_terms(alloc: Global, cell: &Cell) -> Result<Vec<Term>, NoMemory>
 }
 
 /// The shadow logic of a cell that is a sum, a comparison or an equality: a term for each output.
+#[derive(Drop)]
 pub struct ArithShadow<'a> {
     cell: &'a Cell,
 }

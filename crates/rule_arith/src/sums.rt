@@ -86,12 +86,7 @@ impl Sums {
     }
 
     /// The taint in the case of these signs: where the least and the greatest sum differ.
-    fn case(
-        &self,
-        alloc: Global,
-        first_sign: bool,
-        second_sign: bool,
-    ) -> Result<Term, NoMemory>
+    fn case(&self, alloc: Global, first_sign: bool, second_sign: bool) -> Result<Term, NoMemory>
         requires { self.now.width ≤ 65536 }
         ensures { IfOk result (λ t. formula_of t ≡ case_taint (sum_at self.now) first_sign second_sign) }
     {
@@ -152,18 +147,8 @@ pub fn sum_term(
         second_start: second.start(width),
         carry: None,
     };
-    let first_taint = take_below(
-        alloc,
-        width,
-        sums.first_start,
-        first.taint(alloc, width)?,
-    )?;
-    let second_taint = take_below(
-        alloc,
-        width,
-        sums.second_start,
-        second.taint(alloc, width)?,
-    )?;
+    let first_taint = take_below(alloc, width, sums.first_start, first.taint(alloc, width)?)?;
+    let second_taint = take_below(alloc, width, sums.second_start, second.taint(alloc, width)?)?;
     let own = Term::two(alloc, Op2::Or, first_taint, second_taint)?;
     let taint = Term::two(alloc, Op2::Or, own, sums.cases(alloc)?)?;
     name_bounds(alloc, width, first, second, taint)
@@ -201,10 +186,7 @@ pub fn neg_term(alloc: Global, width: u32, signed: bool, bits: u32) -> Result<Te
         bits,
         signed,
     };
-    Ok(sum_term(
-        alloc,
-        width,
-        &Addend::Complement(operand),
-        &Addend::Unit,
-    )?)
+    let complement = Addend::Complement(operand);
+    let one = Addend::Unit;
+    Ok(sum_term(alloc, width, &complement, &one)?)
 }

@@ -2,7 +2,7 @@
 use Rattle.std.proofs.Common.{◌≡◌, ◌+◌, map}
 use Rattle.std.specs.Prelude.{if◌then◌else◌}
 use Rattle.std.specs.List.{range_with_len}
-use Rattle.rule_arith.specs.Bounds.{half_places, is_upper}
+use Rattle.rule_arith.specs.Bounds.{is_upper}
 use Rattle.rule_arith.proofs.bounds.places_in_pair.Given as goal
 
 abbrev pub invariant-loop-place : goal.invariant-loop-place

@@ -1,5 +1,5 @@
 -- One more term at each turn, and at the end one for each output.
-use Rattle.std.proofs.Common.{arith, ap, length, ◌≡◌, ◌∙◌, sym}
+use Rattle.std.proofs.Common.{arith, ap, length, ◌≡◌, ◌∙◌}
 use Rattle.std.specs.Prelude.{true}
 use Rattle.cif_defs.specs.Table.{outputs_of}
 use Rattle.rule_arith.specs.ArithFormulas.{covers_arith}
@@ -17,4 +17,4 @@ loop-output-preserved c = term_push _ _ _ _ _ c.loop-output.invariant c.in_ok-pu
 pub returns : goal.returns
 returns c = terms_are c.args.cell.now _ _ c.requires.covered c.requires.fitted c.loop-output.invariant
     (let done : c.loop-output.output ≡ length c.outputs.result.now = (let e = c.loop-output.auto.output-end in let f = c.loop-output-test.false in omega arith) in
-      done ∙ ap length c.outputs.ensures ∙ ap (λ k. length (outputs_of k)) c.kind.ensures)
+    done ∙ ap length c.outputs.ensures ∙ ap (λ k. length (outputs_of k)) c.kind.ensures)
