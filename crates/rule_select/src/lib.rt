@@ -8,6 +8,7 @@
 mod moves;
 mod mux;
 mod offsets;
+mod selections;
 mod shadow;
 mod shifts;
 mod tree;
@@ -31,7 +32,16 @@ pub fn covers(kind: Kind) -> bool
 {
     matches!(
         kind,
-        Kind::Mux | Kind::Shl | Kind::Sshl | Kind::Shr | Kind::Sshr | Kind::Shift | Kind::Shiftx
+        Kind::Mux
+            | Kind::Shl
+            | Kind::Sshl
+            | Kind::Shr
+            | Kind::Sshr
+            | Kind::Shift
+            | Kind::Shiftx
+            | Kind::Bmux
+            | Kind::Demux
+            | Kind::Lut
     )
 }
 
