@@ -1,9 +1,9 @@
 -- The bits that stages give which halve words, or double them.
-use Rattle.std.specs.Prelude.{ℕ, zero, suc, ◌+◌, ◌-◌, ◌*◌, ◌^◌, ◌<◌, ◌≤◌, ◌≡◌, nat_le, nat_lt, Bool, true, false, ◌&&◌, List, [], ◌∷◌, length, take, drop, refl, if◌then◌else◌}
+use Rattle.std.specs.Prelude.{ℕ, zero, suc, ◌+◌, ◌-◌, ◌*◌, ◌^◌, ◌<◌, ◌≤◌, ◌≡◌, nat_le, nat_lt, Bool, true, false, ◌&&◌, List, [], ◌∷◌, length, drop, refl, if◌then◌else◌}
 use Rattle.std.proofs.Common.{arith, sym, ap, ◌∙◌, inl, inr}
 use Rattle.std.proofs.lemmas.Bool.Decides.{nat_tests}
 use Rattle.std.proofs.Math.ListN.{drop_of_length-le}
-use Rattle.std.proofs.Math.Nat.{mul-le-mul_left, pow-succ'}
+use Rattle.std.proofs.Math.Nat.{mul-le-mul_left}
 use Rattle.cif_defs.specs.Words.{Word, bit, bit_value, number, operand}
 use Rattle.cif_defs.proofs.WordLaws.{le_or_lt}
 use Rattle.rule_select.specs.declared.moves.Moves.TheVariants.{Blocks, Halves}

@@ -1,11 +1,11 @@
 -- The formulas of $bmux, $lut and $demux compute exact taint.
-use Rattle.std.specs.Prelude.{ℕ, zero, suc, ◌+◌, ◌-◌, ◌*◌, ◌/◌, ◌^◌, ◌<◌, ◌≤◌, ◌≡◌, nat_le, Bool, false, ◌&&◌, List, [], ◌∷◌, length, map, take, drop, Some, refl}
-use Rattle.std.proofs.Common.{arith, sym, ap, subst, ◌∙◌}
+use Rattle.std.specs.Prelude.{ℕ, zero, suc, ◌+◌, ◌-◌, ◌*◌, ◌/◌, ◌^◌, ◌<◌, ◌≤◌, ◌≡◌, nat_le, Bool, false, ◌&&◌, List, [], ◌∷◌, length, map, drop, Some, refl}
+use Rattle.std.proofs.Common.{arith, sym, ap, ◌∙◌}
 use Rattle.std.proofs.lemmas.List.{get_or_past, take_all}
 use Rattle.cif_defs.specs.Words.{Word, bit, number, operand, word, zeros}
 use Rattle.cif_defs.proofs.Numbers.{word-same}
 use Rattle.cif_defs.proofs.WordLaws.{length-word}
-use Rattle.cif_term.specs.Formulas.{Bound, Const, Taint, Value, IsFormed, pieces, value_of}
+use Rattle.cif_term.specs.Formulas.{Bound, Const, Taint, Value, IsFormed, value_of}
 use Rattle.cif_term.proofs.Forms.{formed_bound, formed_const, formed_taint, formed_value, raised}
 use Rattle.rule_select.specs.declared.moves.Moves.TheVariants.{Blocks, Halves}
 use Rattle.rule_select.specs.Selections.{bmux_formula, demux_formula, lut_formula}
@@ -14,7 +14,6 @@ use Rattle.rule_select.proofs.BlockTrees.{block_moving, half_is, half_moving, ha
 use Rattle.rule_select.proofs.Leaves.{extended_leaf, leaf_ignores, value-plain, value-plain_taint}
 use Rattle.rule_select.proofs.MoveTrees.{move_tree, moving_formed, moving_tree}
 use Rattle.rule_select.proofs.Operands.{operand_by}
-use Rattle.rule_select.proofs.ShiftBits.{moved_by}
 use Rattle.rule_select.proofs.Tests.{never_differs}
 use Rattle.rule_select.proofs.Trees.{Tree, differs, formed_tree, stages_cost, tree_bit, value-tree}
 

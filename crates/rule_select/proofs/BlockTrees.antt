@@ -1,14 +1,14 @@
 -- Trees whose stages halve words, or double them.
-use Rattle.std.specs.Prelude.{ℕ, suc, ◌+◌, ◌-◌, ◌*◌, ◌^◌, ◌<◌, ◌≤◌, ◌≡◌, Bool, true, false, List, length, refl}
+use Rattle.std.specs.Prelude.{ℕ, suc, ◌+◌, ◌-◌, ◌*◌, ◌^◌, ◌<◌, ◌≤◌, ◌≡◌, Bool, true, false, refl}
 use Rattle.std.proofs.Common.{arith, sym, ap, subst, ◌∙◌}
 use Rattle.std.proofs.Math.Nat.{mul-le-mul_left, pow-succ'}
 use Rattle.std.proofs.Math.Pow.{pow_mono}
 use Rattle.std.proofs.lemmas.Nat.{pow_pos}
-use Rattle.cif_defs.specs.Words.{Word, bit, word}
+use Rattle.cif_defs.specs.Words.{bit}
 use Rattle.cif_defs.proofs.Numbers.{word-same}
-use Rattle.cif_term.specs.Formulas.{Formula, Pick, value_of}
+use Rattle.cif_term.specs.Formulas.{Formula, value_of}
 use Rattle.rule_select.specs.declared.moves.Moves.TheVariants.{Blocks, Halves}
-use Rattle.rule_select.specs.Moves.{as_lower, as_upper, lower_half, order_by, parts_by, upper_half}
+use Rattle.rule_select.specs.Moves.{lower_half, order_by, parts_by, upper_half}
 use Rattle.rule_select.proofs.MoveReads.{left_at, left_place, left_under}
 use Rattle.rule_select.proofs.MoveTrees.{IsMoving, place_by}
 use Rattle.rule_select.proofs.Places.{Reads, reads_run, reads_window}

@@ -22,8 +22,11 @@ pub mod OffsetLaws
 pub mod OffsetBits
 pub mod SelectionCells
 pub mod SelectionKinds
+pub mod ChainBits
+pub mod ChainLaws
 pub mod ShiftKinds
 pub mod OffsetKinds
 pub mod Trees
 pub mod MuxLaws
+pub mod Examples
 pub mod SelectLaws

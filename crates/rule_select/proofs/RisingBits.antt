@@ -1,8 +1,8 @@
 -- The bits that stages give which move left for select bits at 0.
-use Rattle.std.specs.Prelude.{ℕ, zero, suc, ◌+◌, ◌-◌, ◌*◌, ◌^◌, ◌<◌, ◌≤◌, ◌≡◌, nat_le, Bool, true, false, not, ◌&&◌, List, length, take, refl, if◌then◌else◌}
+use Rattle.std.specs.Prelude.{ℕ, zero, suc, ◌+◌, ◌-◌, ◌*◌, ◌^◌, ◌<◌, ◌≤◌, ◌≡◌, nat_le, Bool, true, false, not, ◌&&◌, List, length, refl, if◌then◌else◌}
 use Rattle.std.proofs.Common.{arith, sym, ap, ◌∙◌}
 use Rattle.std.proofs.Math.Nat.{pow-succ'}
-use Rattle.cif_defs.specs.Words.{Word, bit, number, operand}
+use Rattle.cif_defs.specs.Words.{Word, bit, operand}
 use Rattle.rule_select.specs.Moves.{order_by}
 use Rattle.rule_select.specs.declared.moves.Moves.TheVariants.{Rising}
 use Rattle.rule_select.proofs.MoveBits.{gain, left_step, low_below, low_number}

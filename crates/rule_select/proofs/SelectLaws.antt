@@ -2,7 +2,7 @@
 use Rattle.std.specs.Prelude.{ℕ, zero, suc, ◌<◌, ◌≡◌, true, List, [], ◌∷◌, length, refl}
 use Rattle.std.proofs.Common.{arith, sym, ap, subst, ◌∙◌}
 use Rattle.cif_defs.specs.declared.kinds.Kind.{Kind}
-use Rattle.cif_defs.specs.declared.kinds.Kind.TheVariants.{Mux, Shl, Sshl, Shr, Sshr, Shift, Shiftx, Bmux, Demux, Lut}
+use Rattle.cif_defs.specs.declared.kinds.Kind.TheVariants.{Mux, Shl, Sshl, Shr, Sshr, Shift, Shiftx, Bmux, Demux, Lut, Pmux}
 use Rattle.cif_defs.specs.Cells.{Cell}
 use Rattle.cif_defs.specs.Table.{outputs_of}
 use Rattle.cif_defs.specs.Fitted.{IsFitted}
@@ -15,6 +15,8 @@ use Rattle.rule_select.specs.Offsets.{shift_offset, shiftx_offset}
 use Rattle.rule_select.proofs.OffsetKinds.{shift_kind_taints, shiftx_kind_taints}
 use Rattle.rule_select.specs.Selections.{cell_bmux, cell_demux, cell_lut}
 use Rattle.rule_select.proofs.SelectionKinds.{bmux_taints, demux_taints, lut_taints}
+use Rattle.rule_select.specs.Chains.{cell_pmux}
+use Rattle.rule_select.proofs.ChainLaws.{pmux_taints}
 use Rattle.rule_select.specs.Shifts.{cell_shift, left_moves, right_moves, signed_moves}
 use Rattle.rule_select.proofs.ShiftKinds.{shl_taints, sshl_taints, shr_taints, sshr_taints}
 
@@ -30,6 +32,7 @@ taints_by Shiftx c f h e = shiftx_kind_taints c f e
 taints_by Bmux c f h e = bmux_taints c f e
 taints_by Demux c f h e = demux_taints c f e
 taints_by Lut c f h e = lut_taints c f e
+taints_by Pmux c f h e = pmux_taints c f e
 taints_by _ c f h e = absurd (cc)
 
 pub select_taints : (c : Cell) → IsFitted c → is_select c.kind ≡ true → AreTaintsOf c (select_formula c ∷ [])
@@ -48,6 +51,7 @@ one_by Shiftx h = refl
 one_by Bmux h = refl
 one_by Demux h = refl
 one_by Lut h = refl
+one_by Pmux h = refl
 one_by _ h = absurd (cc)
 
 pub one_port : (c : Cell) → is_select c.kind ≡ true → length (outputs_of c.kind) ≡ 1
@@ -108,3 +112,7 @@ demux_is c e = formula_is c Demux e
 pub lut_is : (c : Cell) → c.kind ≡ Lut → select_formula c ≡ cell_lut c
 unfolding formula_by
 lut_is c e = formula_is c Lut e
+
+pub pmux_is : (c : Cell) → c.kind ≡ Pmux → select_formula c ≡ cell_pmux c
+unfolding formula_by
+pmux_is c e = formula_is c Pmux e

@@ -1,5 +1,5 @@
 -- The widths of $pmux, $bmux, $demux and $lut.
-use Rattle.std.specs.Prelude.{ℕ, ◌*◌, ◌^◌, ◌≤◌, ◌≡◌, List, [], ◌∷◌, length, get_or, map, refl}
+use Rattle.std.specs.Prelude.{◌*◌, ◌^◌, ◌≤◌, ◌≡◌, [], ◌∷◌, get_or, map}
 use Rattle.std.proofs.Common.{arith, ap, subst, ◌∙◌}
 use Rattle.cif_defs.specs.declared.kinds.Kind.TheVariants.{Bmux, Demux, Lut, Pmux}
 use Rattle.cif_defs.specs.declared.kinds.CellPort.TheVariants.{A, B, S, Y}
@@ -8,6 +8,7 @@ use Rattle.cif_defs.specs.Table.{operands_of, outputs_of, width_limit}
 use Rattle.cif_defs.specs.Cells.{Cell, number_of, width}
 use Rattle.cif_defs.specs.Fitted.{AllWithin, IsFitted, operand_widths, row_width}
 use Rattle.cif_term.specs.CellTaints.{output_width}
+use Rattle.rule_select.specs.Chains.{IsChain}
 use Rattle.rule_select.specs.Selections.{AreBlocks}
 use Rattle.rule_select.proofs.BlockTrees.{scaled_most}
 
@@ -124,3 +125,11 @@ pmux_cell c f k =
     let b_limit : width_limit c.kind B ≡ 65536 = ap (λ x. width_limit x B) k in
     let s_limit : width_limit c.kind S ≡ 4096 = ap (λ x. width_limit x S) k in
     record { some = ins.0.some; narrow = omega arith; few = omega arith; selects_some = ins.1.1.0.some; selects = omega arith }
+
+pub pmux_chain : (c : Cell) → IsFitted c → c.kind ≡ Pmux → IsChain c
+pmux_chain c f k =
+    let s = pmux_cell c f k in
+    let narrow : width c ≤ 4096 = s.narrow in
+    let few : width c * number_of c SWidth ≤ 65536 = s.few in
+    let selects : number_of c SWidth ≤ 4096 = s.selects in
+    record { narrow = omega arith; few = omega arith; selects = omega arith }

@@ -5,5 +5,6 @@ pub mod Moves
 pub mod Shifts
 pub mod Offsets
 pub mod Selections
+pub mod Chains
 pub mod Mux
 pub mod Selects

@@ -1,5 +1,5 @@
 -- The taint of $pmux, $bmux, $demux and $lut.
-use Rattle.std.specs.Prelude.{ℕ, zero, suc, ◌*◌, ◌^◌, ◌≤◌}
+use Rattle.std.specs.Prelude.{ℕ, ◌*◌, ◌^◌, ◌≤◌}
 use Rattle.cif_defs.specs.Words.{Word, bit, word, zeros}
 use Rattle.cif_defs.specs.Cells.{Cell, digits_of, number_of, width}
 use Rattle.cif_defs.specs.declared.kinds.Param.TheVariants.{Lut, SWidth}

@@ -5,6 +5,7 @@
 //! and of their difference.
 #![tactic(auto)]
 
+mod chains;
 mod moves;
 mod mux;
 mod offsets;
@@ -42,6 +43,7 @@ pub fn covers(kind: Kind) -> bool
             | Kind::Bmux
             | Kind::Demux
             | Kind::Lut
+            | Kind::Pmux
     )
 }
 

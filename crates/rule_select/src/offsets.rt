@@ -18,7 +18,7 @@ use cif_term::{Op2, Term};
 use std::alloc::Global;
 
 /// `width` bits of the word `Bound(1)`, and above them those of its taint `Bound(0)`.
-fn pair(alloc: Global, width: u32) -> Result<Term, NoMemory>
+pub fn pair(alloc: Global, width: u32) -> Result<Term, NoMemory>
     requires { width ≤ 65536 }
     ensures { IfOk result (λ t. formula_of t ≡ pair_of width) }
 {
@@ -28,7 +28,7 @@ fn pair(alloc: Global, width: u32) -> Result<Term, NoMemory>
 }
 
 /// The word of a pair.
-fn value_of_pair(alloc: Global, width: u32, pair: u32) -> Result<Term, NoMemory>
+pub fn value_of_pair(alloc: Global, width: u32, pair: u32) -> Result<Term, NoMemory>
     requires { width ≤ 65536 }
     ensures { IfOk result (λ t. formula_of t ≡ pair_value width (Bound pair)) }
 {
@@ -36,7 +36,7 @@ fn value_of_pair(alloc: Global, width: u32, pair: u32) -> Result<Term, NoMemory>
 }
 
 /// The taint of a pair.
-fn taint_of_pair(alloc: Global, width: u32, pair: u32) -> Result<Term, NoMemory>
+pub fn taint_of_pair(alloc: Global, width: u32, pair: u32) -> Result<Term, NoMemory>
     requires { width ≤ 65536 }
     ensures { IfOk result (λ t. formula_of t ≡ pair_taint width (Bound pair)) }
 {

@@ -1,7 +1,7 @@
 -- Each kind has its formula.
 use Rattle.std.proofs.Common.{sym, ◌∙◌}
-use Rattle.rule_select.proofs.SelectLaws.{mux_is, shl_is, sshl_is, shr_is, sshr_is, shift_is, shiftx_is, bmux_is, demux_is, lut_is}
-use Rattle.rule_select.proofs.SelectionCells.{bmux_blocks, demux_blocks, lut_few}
+use Rattle.rule_select.proofs.SelectLaws.{mux_is, shl_is, sshl_is, shr_is, sshr_is, shift_is, shiftx_is, bmux_is, demux_is, lut_is, pmux_is}
+use Rattle.rule_select.proofs.SelectionCells.{bmux_blocks, demux_blocks, lut_few, pmux_chain}
 use Rattle.rule_select.proofs.ShiftCells.{shl_narrow, sshl_narrow, shr_narrow, sshr_narrow, shift_narrow, shiftx_narrow}
 use Rattle.rule_select.proofs.shadow.select_term.Goals as goal
 
@@ -61,3 +61,9 @@ lut_term-requires c = lut_few c.args.cell.now c.requires.fitted (sym c.in-Lut.en
 
 pub returns-in_ok-lut_term-in-Lut : goal.returns-in_ok-lut_term-in-Lut
 returns-in_ok-lut_term-in-Lut c = c.in_ok-lut_term-in-Lut.ensures ∙ sym (lut_is c.args.cell.now (sym c.in-Lut.ensures))
+
+pub pmux_term-requires : goal.pmux_term-requires
+pmux_term-requires c = pmux_chain c.args.cell.now c.requires.fitted (sym c.in-Pmux.ensures)
+
+pub returns-in_ok-pmux_term-in-Pmux : goal.returns-in_ok-pmux_term-in-Pmux
+returns-in_ok-pmux_term-in-Pmux c = c.in_ok-pmux_term-in-Pmux.ensures ∙ sym (pmux_is c.args.cell.now (sym c.in-Pmux.ensures))
