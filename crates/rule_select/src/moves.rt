@@ -103,6 +103,25 @@ pub fn left(alloc: Global, width: u32, select: u32, part: Term) -> Result<Term, 
     window_term(alloc, by, 0, width - by, 0, part)
 }
 
+/// The word `part` of `width` bits, moved left with zeros if `moved` says so.
+fn left_where(
+    alloc: Global,
+    width: u32,
+    select: u32,
+    moved: bool,
+    part: Term,
+) -> Result<Term, NoMemory>
+    requires { width ≤ 65536 }
+    ensures { IfOk result (λ t.
+        formula_of t ≡ if moved then moved_left width select (formula_of part) else formula_of part) }
+{
+    if moved {
+        left(alloc, width, select, part)
+    } else {
+        Ok(part)
+    }
+}
+
 /// The word `part` of `width` bits, moved right with zeros.
 fn right(alloc: Global, width: u32, select: u32, part: Term) -> Result<Term, NoMemory>
     requires { width ≤ 65536 }
@@ -193,16 +212,8 @@ pub fn part(
         formula_of t ≡ parts_by moves select one tainted (formula_of word)) }
 {
     match moves {
-        Moves::Left(width) => if one {
-            Ok(left(alloc, width, select, word)?)
-        } else {
-            Ok(word)
-        },
-        Moves::Rising(width) => if one {
-            Ok(word)
-        } else {
-            Ok(left(alloc, width, select, word)?)
-        },
+        Moves::Left(width) => Ok(left_where(alloc, width, select, one, word)?),
+        Moves::Rising(width) => Ok(left_where(alloc, width, select, !one, word)?),
         Moves::Right(width) => if one {
             Ok(right(alloc, width, select, word)?)
         } else {
