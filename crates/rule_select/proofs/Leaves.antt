@@ -5,10 +5,11 @@ use Rattle.std.proofs.lemmas.List.{get_or-set_other, get_or_default, get_or_past
 use Rattle.cif_defs.specs.Words.{Word, bit, extended_bit, operand, top, word}
 use Rattle.cif_defs.proofs.Numbers.{word-same}
 use Rattle.cif_defs.proofs.WordLaws.{le_or_lt}
-use Rattle.cif_term.specs.Formulas.{Taint, value_of}
+use Rattle.cif_term.specs.Formulas.{Taint, Value, value_of}
 use Rattle.cif_term.specs.Extended.{extended}
 use Rattle.cif_term.proofs.Values.{value-extended}
 use Rattle.rule_select.proofs.ChoiceLaws.{Ignores, bit_differs}
+use Rattle.rule_select.proofs.Operands.{word_of_bits}
 use Rattle.rule_select.proofs.Tests.{never_differs, same_differ}
 use Rattle.rule_select.proofs.Trees.{differs}
 
@@ -52,3 +53,10 @@ pub value-leaf_taint : (p n m : ℕ) (signed : Bool) (vs ts named : List Word) �
     → value_of (extended n signed m (Taint p)) vs ts named ≡ word n (differs (extended_leaf p signed) vs ts)
 value-leaf_taint p n m signed vs ts named there e d some =
     value-extended n m signed (Taint p) vs ts named d some ∙ word-same n _ _ (λ i h. sym (leaf_differs p m signed vs ts i there e d some))
+
+-- an operand as it stands
+pub value-plain : (p w : ℕ) (vs ts named : List Word) → length (operand vs p) ≡ w → value_of (Value p) vs ts named ≡ word w (λ i. extended_leaf p false i vs)
+value-plain p w vs ts named e = word_of_bits (operand vs p) w e
+
+pub value-plain_taint : (p w : ℕ) (vs ts named : List Word) → p < length vs → length (operand vs p) ≡ w → length (operand ts p) ≡ w → 1 ≤ w → value_of (Taint p) vs ts named ≡ word w (differs (extended_leaf p false) vs ts)
+value-plain_taint p w vs ts named there e d some = word_of_bits (operand ts p) w d ∙ word-same w _ _ (λ i h. sym (leaf_differs p w false vs ts i there e d some))

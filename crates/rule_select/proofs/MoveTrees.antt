@@ -1,10 +1,10 @@
 -- Trees whose stages move words.
-use Rattle.std.specs.Prelude.{ℕ, suc, ◌+◌, ◌-◌, ◌^◌, ◌<◌, ◌≤◌, ◌≡◌, ◌≢◌, min, Bool, true, false, List, length, slice_get, Some}
+use Rattle.std.specs.Prelude.{ℕ, suc, ◌+◌, ◌-◌, ◌*◌, ◌^◌, ◌<◌, ◌≤◌, ◌≡◌, ◌≢◌, min, Bool, true, false, List, length, slice_get, Some}
 use Rattle.std.proofs.Common.{arith}
 use Rattle.cif_defs.specs.Words.{Word, operand}
 use Rattle.rule_select.specs.Moves.{order_by, parts_by}
 use Rattle.rule_select.specs.declared.moves.Moves.{Moves}
-use Rattle.rule_select.specs.declared.moves.Moves.TheVariants.{Left, Rising, Right, Signed}
+use Rattle.rule_select.specs.declared.moves.Moves.TheVariants.{Left, Rising, Right, Signed, Halves, Blocks, Chain}
 use Rattle.rule_select.proofs.ChoiceLaws.{Ignores}
 use Rattle.rule_select.proofs.MoveReads.{left_place, left_reads, right_reads, signed_reads}
 use Rattle.rule_select.proofs.Places.{Reads, moved_bit, moved_ignores, reads_all, reads_taint, reads_value}
@@ -20,6 +20,11 @@ place_by (Right n) k true i = i + 2 ^ k
 place_by (Right n) k false i = i
 place_by (Signed n) k true i = min (i + 2 ^ k) (n - 1)
 place_by (Signed n) k false i = i
+place_by (Halves n) k true i = n * 2 ^ k + i
+place_by (Halves n) k false i = i
+place_by (Blocks n) k true i = left_place (n * 2 ^ k) (n * 2 ^ k) i
+place_by (Blocks n) k false i = i
+place_by (Chain n) k one i = i
 
 -- the tree of m stages by the bits of operand q, with widths wide
 abbrev pub move_tree : Moves → ℕ → ℕ → (ℕ → ℕ) → (ℕ → List Word → Bool) → Tree

@@ -1,11 +1,11 @@
 -- The bits that stages give which move left for select bits at 0.
-use Rattle.std.specs.Prelude.{ℕ, zero, suc, ◌+◌, ◌-◌, ◌*◌, ◌^◌, ◌<◌, ◌≤◌, ◌≡◌, nat_le, Bool, true, false, not, ◌&&◌, List, length, take, refl, if◌then◌else◌}
+use Rattle.std.specs.Prelude.{ℕ, zero, suc, ◌+◌, ◌-◌, ◌*◌, ◌^◌, ◌<◌, ◌≤◌, ◌≡◌, nat_le, Bool, true, false, not, ◌&&◌, List, length, refl, if◌then◌else◌}
 use Rattle.std.proofs.Common.{arith, sym, ap, ◌∙◌}
 use Rattle.std.proofs.Math.Nat.{pow-succ'}
-use Rattle.cif_defs.specs.Words.{Word, bit, number, operand}
+use Rattle.cif_defs.specs.Words.{Word, bit, operand}
 use Rattle.rule_select.specs.Moves.{order_by}
 use Rattle.rule_select.specs.declared.moves.Moves.TheVariants.{Rising}
-use Rattle.rule_select.proofs.MoveBits.{gain, left_step, low_number}
+use Rattle.rule_select.proofs.MoveBits.{gain, left_step, low_below, low_number}
 use Rattle.rule_select.proofs.MoveReads.{left_place}
 use Rattle.rule_select.proofs.MoveTrees.{move_tree, place_by}
 use Rattle.rule_select.proofs.Places.{moved_bit}
@@ -23,19 +23,6 @@ flipped false x y = refl
 rest_after : (s : Bool) (p x : ℕ) → x ≤ p → p - x + gain (not s) p ≡ 2 * p - (x + gain s p)
 rest_after true p x h = omega arith
 rest_after false p x h = omega arith
-
-pub low_below : (w : Word) (j : ℕ) → j ≤ length w → number (take j w) ≤ 2 ^ j
-low_below w zero h = omega arith
-low_below w (suc j) h =
-    let before : number (take j w) ≤ 2 ^ j = low_below w j (omega arith) in
-    let more : number (take (suc j) w) ≡ number (take j w) + gain (bit w j) (2 ^ j) = low_number w j (omega arith) in
-    let most : gain (bit w j) (2 ^ j) ≤ 2 ^ j = gain_most (bit w j) (2 ^ j) in
-    let power : 2 ^ suc j ≡ 2 * 2 ^ j = pow-succ' 2 j in
-    omega arith
-  where
-    gain_most : (s : Bool) (p : ℕ) → gain s p ≤ p
-    gain_most true p = omega arith
-    gain_most false p = omega arith
 
 pub rising_bits : (n m : ℕ) (leaf : ℕ → List Word → Bool) (us : List Word) → m ≤ length (operand us 1) → (j : ℕ) → j ≤ m → (i : ℕ) → i < n
     → tree_bit (move_tree (Rising n) 1 m (λ j. n) (raised_leaf n leaf)) j i us ≡ (nat_le (2 ^ j - moved_by us j) i && leaf (i - (2 ^ j - moved_by us j)) us)

@@ -2,7 +2,7 @@
 use Rattle.std.specs.Prelude.{ℕ, zero, suc, ◌<◌, ◌≡◌, true, List, [], ◌∷◌, length, refl}
 use Rattle.std.proofs.Common.{arith, sym, ap, subst, ◌∙◌}
 use Rattle.cif_defs.specs.declared.kinds.Kind.{Kind}
-use Rattle.cif_defs.specs.declared.kinds.Kind.TheVariants.{Mux, Shl, Sshl, Shr, Sshr, Shift, Shiftx}
+use Rattle.cif_defs.specs.declared.kinds.Kind.TheVariants.{Mux, Shl, Sshl, Shr, Sshr, Shift, Shiftx, Bmux, Demux, Lut, Pmux}
 use Rattle.cif_defs.specs.Cells.{Cell}
 use Rattle.cif_defs.specs.Table.{outputs_of}
 use Rattle.cif_defs.specs.Fitted.{IsFitted}
@@ -13,6 +13,10 @@ use Rattle.rule_select.specs.Mux.{mux_formula}
 use Rattle.rule_select.proofs.MuxLaws.{mux_taints}
 use Rattle.rule_select.specs.Offsets.{shift_offset, shiftx_offset}
 use Rattle.rule_select.proofs.OffsetKinds.{shift_kind_taints, shiftx_kind_taints}
+use Rattle.rule_select.specs.Selections.{cell_bmux, cell_demux, cell_lut}
+use Rattle.rule_select.proofs.SelectionKinds.{bmux_taints, demux_taints, lut_taints}
+use Rattle.rule_select.specs.Chains.{cell_pmux}
+use Rattle.rule_select.proofs.ChainLaws.{pmux_taints}
 use Rattle.rule_select.specs.Shifts.{cell_shift, left_moves, right_moves, signed_moves}
 use Rattle.rule_select.proofs.ShiftKinds.{shl_taints, sshl_taints, shr_taints, sshr_taints}
 
@@ -25,6 +29,10 @@ taints_by Shr c f h e = shr_taints c f e
 taints_by Sshr c f h e = sshr_taints c f e
 taints_by Shift c f h e = shift_kind_taints c f e
 taints_by Shiftx c f h e = shiftx_kind_taints c f e
+taints_by Bmux c f h e = bmux_taints c f e
+taints_by Demux c f h e = demux_taints c f e
+taints_by Lut c f h e = lut_taints c f e
+taints_by Pmux c f h e = pmux_taints c f e
 taints_by _ c f h e = absurd (cc)
 
 pub select_taints : (c : Cell) → IsFitted c → is_select c.kind ≡ true → AreTaintsOf c (select_formula c ∷ [])
@@ -40,6 +48,10 @@ one_by Shr h = refl
 one_by Sshr h = refl
 one_by Shift h = refl
 one_by Shiftx h = refl
+one_by Bmux h = refl
+one_by Demux h = refl
+one_by Lut h = refl
+one_by Pmux h = refl
 one_by _ h = absurd (cc)
 
 pub one_port : (c : Cell) → is_select c.kind ≡ true → length (outputs_of c.kind) ≡ 1
@@ -88,3 +100,19 @@ shift_is c e = formula_is c Shift e
 pub shiftx_is : (c : Cell) → c.kind ≡ Shiftx → select_formula c ≡ shiftx_offset c
 unfolding formula_by
 shiftx_is c e = formula_is c Shiftx e
+
+pub bmux_is : (c : Cell) → c.kind ≡ Bmux → select_formula c ≡ cell_bmux c
+unfolding formula_by
+bmux_is c e = formula_is c Bmux e
+
+pub demux_is : (c : Cell) → c.kind ≡ Demux → select_formula c ≡ cell_demux c
+unfolding formula_by
+demux_is c e = formula_is c Demux e
+
+pub lut_is : (c : Cell) → c.kind ≡ Lut → select_formula c ≡ cell_lut c
+unfolding formula_by
+lut_is c e = formula_is c Lut e
+
+pub pmux_is : (c : Cell) → c.kind ≡ Pmux → select_formula c ≡ cell_pmux c
+unfolding formula_by
+pmux_is c e = formula_is c Pmux e

@@ -4,5 +4,7 @@ pub mod Trees
 pub mod Moves
 pub mod Shifts
 pub mod Offsets
+pub mod Selections
+pub mod Chains
 pub mod Mux
 pub mod Selects

@@ -5,9 +5,11 @@
 //! and of their difference.
 #![tactic(auto)]
 
+mod chains;
 mod moves;
 mod mux;
 mod offsets;
+mod selections;
 mod shadow;
 mod shifts;
 mod tree;
@@ -31,7 +33,17 @@ pub fn covers(kind: Kind) -> bool
 {
     matches!(
         kind,
-        Kind::Mux | Kind::Shl | Kind::Sshl | Kind::Shr | Kind::Sshr | Kind::Shift | Kind::Shiftx
+        Kind::Mux
+            | Kind::Shl
+            | Kind::Sshl
+            | Kind::Shr
+            | Kind::Sshr
+            | Kind::Shift
+            | Kind::Shiftx
+            | Kind::Bmux
+            | Kind::Demux
+            | Kind::Lut
+            | Kind::Pmux
     )
 }
 

@@ -1,8 +1,8 @@
 // How the stages of trees move words.
-ghost use Rattle.std.specs.Prelude.{◌≡◌, ◌≤◌, ◌+◌, ◌<◌, min, ◌^◌, IfOk};
+ghost use Rattle.std.specs.Prelude.{if◌then◌else◌, ◌≡◌, ◌≤◌, ◌+◌, ◌<◌, min, ◌^◌, ◌*◌, IfOk};
 ghost use Rattle.cif_term.specs.TermView.{formula_of};
 ghost use Rattle.rule_select.specs.Windows.{low_padded, high_padded, places_from, window};
-ghost use Rattle.rule_select.specs.Moves.{step_of, moved_left, moved_right, moved_signed, signed_places, parts_by, order_by, wide_by};
+ghost use Rattle.rule_select.specs.Moves.{step_of, moved_left, moved_right, moved_signed, signed_places, lower_half, upper_half, as_lower, as_upper, block_of, parts_by, order_by, FitsBy};
 
 use cif_bits::{Bits, NoMemory};
 use cif_term::Term;
@@ -19,6 +19,13 @@ pub enum Moves {
     Right(u32),
     /// To the right with the highest bit where the select bit is 1.
     Signed(u32),
+    /// To the lower half where the select bit is 0, and to the upper half where it is 1, down to this many bits.
+    Halves(u32),
+    /// To the lower half of a word twice as wide where the select bit is 0, and to the upper half where it is 1, from
+    /// this many bits.
+    Blocks(u32),
+    /// To a block of this many bits of operand 1 where the select bit is 1.
+    Chain(u32),
 }
 
 /// `part` above so many zeros.
@@ -96,6 +103,25 @@ pub fn left(alloc: Global, width: u32, select: u32, part: Term) -> Result<Term, 
     window_term(alloc, by, 0, width - by, 0, part)
 }
 
+/// The word `part` of `width` bits, moved left with zeros if `moved` says so.
+fn left_where(
+    alloc: Global,
+    width: u32,
+    select: u32,
+    moved: bool,
+    part: Term,
+) -> Result<Term, NoMemory>
+    requires { width ≤ 65536 }
+    ensures { IfOk result (λ t.
+        formula_of t ≡ if moved then moved_left width select (formula_of part) else formula_of part) }
+{
+    if moved {
+        left(alloc, width, select, part)
+    } else {
+        Ok(part)
+    }
+}
+
 /// The word `part` of `width` bits, moved right with zeros.
 fn right(alloc: Global, width: u32, select: u32, part: Term) -> Result<Term, NoMemory>
     requires { width ≤ 65536 }
@@ -126,8 +152,53 @@ fn signed(alloc: Global, width: u32, select: u32, part: Term) -> Result<Term, No
     Term::pick(alloc, part, shown(alloc, width, step(width, select))?)
 }
 
+/// `width` times 2 to the `select`.
+fn scaled(width: u32, select: u32) -> u32
+    requires some { 1 ≤ width }
+    requires few { width * 2 ^ select ≤ 65536 }
+    ensures { result ≡ width * 2 ^ select }
+{
+    width * (1u32 << select)
+}
+
+/// One half of `part`, which has twice `width` bits.
+fn half(alloc: Global, width: u32, upper: bool, part: Term) -> Result<Term, NoMemory>
+    requires { width ≤ 65536 }
+    ensures { IfOk result
+        (λ t. formula_of t ≡ if upper then upper_half width (formula_of part) else lower_half width (formula_of part)) }
+{
+    let start = if upper { width } else { 0 };
+    Term::pick(alloc, part, places(alloc, start, width)?)
+}
+
+/// A word of twice `width` bits, of which `part` is one half, and the other zeros.
+fn doubled(alloc: Global, width: u32, upper: bool, part: Term) -> Result<Term, NoMemory>
+    requires { width ≤ 65536 }
+    ensures { IfOk result
+        (λ t. formula_of t ≡ if upper then as_upper width (formula_of part) else as_lower width (formula_of part)) }
+{
+    if upper {
+        window_term(alloc, width, 0, width, 0, part)
+    } else {
+        window_term(alloc, 0, 0, width, width, part)
+    }
+}
+
+/// Block `select` of operand 1, of `width` bits, or its taint.
+fn block(alloc: Global, width: u32, select: u32, tainted: bool) -> Result<Term, NoMemory>
+    requires { (select + 1) * width ≤ 65536 }
+    ensures { IfOk result (λ t. formula_of t ≡ block_of width select tainted) }
+{
+    let bits = places(alloc, select * width, width)?;
+    if tainted {
+        Term::pick(alloc, Term::Taint(1), bits)
+    } else {
+        Term::pick(alloc, Term::Value(1), bits)
+    }
+}
+
 /// The part of a word, or of its taint, for a select bit at 0 or at 1.
-#[tactic(auto, unfolding(crate::specs::Moves::parts_by))]
+#[tactic(auto, unfolding(crate::specs::Moves::parts_by, crate::specs::Moves::FitsBy))]
 pub fn part(
     alloc: Global,
     moves: Moves,
@@ -136,21 +207,13 @@ pub fn part(
     tainted: bool,
     word: Term,
 ) -> Result<Term, NoMemory>
-    requires { wide_by moves ≤ 65536 }
+    requires { FitsBy moves (select + 1) }
     ensures { IfOk result (λ t.
         formula_of t ≡ parts_by moves select one tainted (formula_of word)) }
 {
     match moves {
-        Moves::Left(width) => if one {
-            Ok(left(alloc, width, select, word)?)
-        } else {
-            Ok(word)
-        },
-        Moves::Rising(width) => if one {
-            Ok(word)
-        } else {
-            Ok(left(alloc, width, select, word)?)
-        },
+        Moves::Left(width) => Ok(left_where(alloc, width, select, one, word)?),
+        Moves::Rising(width) => Ok(left_where(alloc, width, select, !one, word)?),
         Moves::Right(width) => if one {
             Ok(right(alloc, width, select, word)?)
         } else {
@@ -161,15 +224,26 @@ pub fn part(
         } else {
             Ok(word)
         },
+        Moves::Halves(width) => Ok(half(alloc, scaled(width, select), one, word)?),
+        Moves::Blocks(width) => Ok(doubled(alloc, scaled(width, select), one, word)?),
+        Moves::Chain(width) => if one {
+            Ok(block(alloc, width, select, tainted)?)
+        } else {
+            Ok(word)
+        },
     }
 }
 
-/// The select bit of a stage.
+/// The select bit of a stage, which there is.
 #[tactic(auto, unfolding(crate::specs::Moves::order_by))]
 pub fn order(moves: Moves, count: u32, stage: u32) -> u32
-    ensures { result ≡ order_by moves count stage }
+    requires { stage < count }
+    ensures value { result ≡ order_by moves count stage }
+    ensures within { result < count }
 {
     match moves {
+        Moves::Halves(_) => count - 1 - stage,
+        Moves::Chain(_) => count - 1 - stage,
         _ => stage,
     }
 }

@@ -18,7 +18,7 @@ use cif_term::{Op2, Term};
 use std::alloc::Global;
 
 /// `width` bits of the word `Bound(1)`, and above them those of its taint `Bound(0)`.
-fn pair(alloc: Global, width: u32) -> Result<Term, NoMemory>
+pub fn pair(alloc: Global, width: u32) -> Result<Term, NoMemory>
     requires { width ≤ 65536 }
     ensures { IfOk result (λ t. formula_of t ≡ pair_of width) }
 {
@@ -28,7 +28,7 @@ fn pair(alloc: Global, width: u32) -> Result<Term, NoMemory>
 }
 
 /// The word of a pair.
-fn value_of_pair(alloc: Global, width: u32, pair: u32) -> Result<Term, NoMemory>
+pub fn value_of_pair(alloc: Global, width: u32, pair: u32) -> Result<Term, NoMemory>
     requires { width ≤ 65536 }
     ensures { IfOk result (λ t. formula_of t ≡ pair_value width (Bound pair)) }
 {
@@ -36,7 +36,7 @@ fn value_of_pair(alloc: Global, width: u32, pair: u32) -> Result<Term, NoMemory>
 }
 
 /// The taint of a pair.
-fn taint_of_pair(alloc: Global, width: u32, pair: u32) -> Result<Term, NoMemory>
+pub fn taint_of_pair(alloc: Global, width: u32, pair: u32) -> Result<Term, NoMemory>
     requires { width ≤ 65536 }
     ensures { IfOk result (λ t. formula_of t ≡ pair_taint width (Bound pair)) }
 {
@@ -44,6 +44,7 @@ fn taint_of_pair(alloc: Global, width: u32, pair: u32) -> Result<Term, NoMemory>
 }
 
 /// `width` bits of A moved right by the lowest `count` bits of B, and their taint.
+#[tactic(auto, unfolding(crate::specs::Moves::FitsBy))]
 fn near(alloc: Global, width: u32, of: u32, signed: bool, count: u32) -> Result<Term, NoMemory>
     requires narrow { width ≤ 65536 }
     requires limit { of ≤ 65536 }
@@ -57,6 +58,7 @@ fn near(alloc: Global, width: u32, of: u32, signed: bool, count: u32) -> Result<
 }
 
 /// The same 2 to the `count` places further left.
+#[tactic(auto, unfolding(crate::specs::Moves::FitsBy))]
 fn far(alloc: Global, width: u32, of: u32, signed: bool, count: u32) -> Result<Term, NoMemory>
     requires { width ≤ 65536 }
     ensures { IfOk result (λ t. formula_of t ≡ far_pair width of signed count) }
@@ -109,6 +111,7 @@ fn two_way(alloc: Global, width: u32, of: u32, signed: bool, sign: u32) -> Resul
 }
 
 /// The taint of `width` bits of A moved by B, which has `by` bits and may be signed.
+#[tactic(auto, unfolding(crate::specs::Moves::FitsBy))]
 fn offset(
     alloc: Global,
     width: u32,

@@ -8,8 +8,10 @@ ghost use Rattle.cif_term.specs.CellTaints.{taint_word};
 ghost use Rattle.cif_term.specs.TermView.{formula_of};
 ghost use Rattle.rule_select.specs.Selects.{is_select, select_formula};
 
+use crate::chains::pmux_term;
 use crate::mux::mux_term;
 use crate::offsets::{either_shift_term, indexed_term};
+use crate::selections::{bmux_term, demux_term, lut_term};
 use crate::shifts::{left_term, right_term, signed_term};
 use cif_bits::NoMemory;
 use cif_cells::Cell;
@@ -31,6 +33,10 @@ pub fn select_term(alloc: Global, cell: &Cell) -> Result<Term, NoMemory>
         Kind::Sshr => Ok(signed_term(alloc, cell)?),
         Kind::Shift => Ok(either_shift_term(alloc, cell)?),
         Kind::Shiftx => Ok(indexed_term(alloc, cell)?),
+        Kind::Bmux => Ok(bmux_term(alloc, cell)?),
+        Kind::Demux => Ok(demux_term(alloc, cell)?),
+        Kind::Lut => Ok(lut_term(alloc, cell)?),
+        Kind::Pmux => Ok(pmux_term(alloc, cell)?),
         Kind::Mux => Ok(mux_term(alloc)?),
         // no other kind is covered
         _ => Err(NoMemory),

@@ -1,8 +1,9 @@
 // The terms of shifts.
-ghost use Rattle.std.specs.Prelude.{◌≡◌, ◌≤◌, IfOk, max};
+ghost use Rattle.std.specs.Prelude.{ℕ, ◌≡◌, ◌≤◌, IfOk, max};
+ghost use Rattle.cif_defs.specs.declared.kinds.Param.TheVariants.{BWidth};
 ghost use Rattle.cif_defs.specs.Cells.{number_of, a_signed, y_width};
 ghost use Rattle.cif_term.specs.TermView.{formula_of};
-ghost use Rattle.rule_select.specs.Moves.{wide_by};
+ghost use Rattle.rule_select.specs.Moves.{wide_by, FitsBy};
 ghost use Rattle.rule_select.specs.Shifts.{shift_formula, cell_shift, left_moves, right_moves, right_width, signed_moves, IsNarrow};
 
 use crate::moves::{Moves, places};
@@ -47,6 +48,7 @@ pub fn moved(
     by: u32,
 ) -> Result<Term, NoMemory>
     requires wide { width ≡ wide_by moves }
+    requires fits { FitsBy moves by }
     requires limit { width ≤ 65536 }
     requires few { shown ≤ 65536 }
     ensures { IfOk result (λ t. formula_of t ≡ shift_formula moves shown of signed by) }
@@ -61,6 +63,7 @@ pub fn moved(
 fn shift_term(alloc: Global, cell: &Cell, moves: Moves, width: u32) -> Result<Term, NoMemory>
     requires narrow { IsNarrow cell.now }
     requires wide { width ≡ wide_by moves }
+    requires fits { FitsBy moves (number_of cell.now BWidth) }
     requires limit { width ≤ 65536 }
     ensures { IfOk result (λ t. formula_of t ≡ cell_shift moves cell.now) }
 {
@@ -71,6 +74,7 @@ fn shift_term(alloc: Global, cell: &Cell, moves: Moves, width: u32) -> Result<Te
 }
 
 /// The taint of `$shl` and `$sshl`.
+#[tactic(auto, unfolding(crate::specs::Moves::FitsBy))]
 pub fn left_term(alloc: Global, cell: &Cell) -> Result<Term, NoMemory>
     requires { IsNarrow cell.now }
     ensures { IfOk result (λ t. formula_of t ≡ cell_shift (left_moves cell.now) cell.now) }
@@ -80,6 +84,7 @@ pub fn left_term(alloc: Global, cell: &Cell) -> Result<Term, NoMemory>
 }
 
 /// The taint of `$shr`.
+#[tactic(auto, unfolding(crate::specs::Moves::FitsBy))]
 pub fn right_term(alloc: Global, cell: &Cell) -> Result<Term, NoMemory>
     requires { IsNarrow cell.now }
     ensures { IfOk result (λ t. formula_of t ≡ cell_shift (right_moves cell.now) cell.now) }
@@ -89,10 +94,12 @@ pub fn right_term(alloc: Global, cell: &Cell) -> Result<Term, NoMemory>
 }
 
 /// How `$sshr` moves words of so many bits.
+#[tactic(auto, unfolding(crate::specs::Moves::FitsBy))]
 fn signed_stages(cell: &Cell, width: u32) -> Moves
     requires { width ≡ right_width cell.now }
     ensures value { result ≡ signed_moves cell.now }
     ensures wide { wide_by result ≡ width }
+    ensures fits { width ≤ 65536 → (k : ℕ) → FitsBy result k }
 {
     if is_signed(cell) {
         Moves::Signed(width)

@@ -1,10 +1,10 @@
 // Trees of choices.
-ghost use Rattle.std.specs.Prelude.{◌≡◌, ◌≤◌, IfOk, [], ◌∷◌, true, false};
+ghost use Rattle.std.specs.Prelude.{◌≡◌, ◌≤◌, ◌+◌, IfOk, [], ◌∷◌, true, false};
 ghost use Rattle.cif_term.specs.TermView.{formula_of};
 ghost use Rattle.cif_term.specs.Formulas.{Bound, Choose, Two};
 ghost use Rattle.cif_term.specs.declared.ops.Op2.TheVariants.{Or, Xor};
 ghost use Rattle.rule_select.specs.Trees.{select_bit, select_taint, stage_value, stage_taint, stage, staged, tree};
-ghost use Rattle.rule_select.specs.Moves.{parts_by, order_by, wide_by};
+ghost use Rattle.rule_select.specs.Moves.{parts_by, order_by, FitsBy};
 
 use crate::moves::{Moves, order, part};
 use cif_bits::NoMemory;
@@ -34,7 +34,7 @@ pub fn taint_of_bit(alloc: Global, operand: u32, place: u32) -> Result<Term, NoM
 
 /// The word after a stage, where the word before is `Bound(1)`.
 fn staged_value(alloc: Global, moves: Moves, operand: u32, select: u32) -> Result<Term, NoMemory>
-    requires { wide_by moves ≤ 65536 }
+    requires { FitsBy moves (select + 1) }
     ensures { IfOk result
         (λ t. formula_of t ≡ stage_value operand select (parts_by moves) (Bound 1)) }
 {
@@ -45,7 +45,7 @@ fn staged_value(alloc: Global, moves: Moves, operand: u32, select: u32) -> Resul
 
 /// The taint of the part that a stage chooses, where the taint before is `Bound(1)`.
 fn chosen_taint(alloc: Global, moves: Moves, operand: u32, select: u32) -> Result<Term, NoMemory>
-    requires { wide_by moves ≤ 65536 }
+    requires { FitsBy moves (select + 1) }
     ensures { IfOk result (λ t. formula_of t ≡ Choose (select_bit operand select) (parts_by moves select false true (Bound 1)) (parts_by moves select true true (Bound 1))) }
 {
     let zero = part(alloc, moves, select, false, true, Term::Bound(1))?;
@@ -55,7 +55,7 @@ fn chosen_taint(alloc: Global, moves: Moves, operand: u32, select: u32) -> Resul
 
 /// Where the parts of a stage are tainted or differ: the word before is `Bound(2)`, and its taint `Bound(1)`.
 fn either_taint(alloc: Global, moves: Moves, select: u32) -> Result<Term, NoMemory>
-    requires { wide_by moves ≤ 65536 }
+    requires { FitsBy moves (select + 1) }
     ensures { IfOk result (λ t. formula_of t ≡ Two Or (Two Or (parts_by moves select false true (Bound 1)) (parts_by moves select true true (Bound 1)))
         (Two Xor (parts_by moves select false false (Bound 2)) (parts_by moves select true false (Bound 2)))) }
 {
@@ -76,7 +76,7 @@ fn stage_term(
     select: u32,
     body: Term,
 ) -> Result<Term, NoMemory>
-    requires { wide_by moves ≤ 65536 }
+    requires { FitsBy moves (select + 1) }
     ensures { IfOk result
         (λ t. formula_of t ≡ stage operand select (parts_by moves) (formula_of body)) }
 {
@@ -87,27 +87,26 @@ fn stage_term(
     Term::name(alloc, value, Term::name(alloc, taint, body)?)
 }
 
-/// `count` stages, and then `body`.
-fn staged_term(
+/// Stages `from` to `from + len` of `count`, and then `body`.
+#[tactic(auto, using(crate::proofs::Steps::fits_before))]
+pub fn staged_term(
     alloc: Global,
     moves: Moves,
     operand: u32,
     count: u32,
+    from: u32,
+    len: u32,
     body: Term,
 ) -> Result<Term, NoMemory>
-    requires { wide_by moves ≤ 65536 }
+    requires fits { FitsBy moves count }
+    requires within { from + len ≤ count }
     ensures { IfOk result
-        (λ t. formula_of t ≡ staged operand (order_by moves count) (parts_by moves) (formula_of body) count 0) }
+        (λ t. formula_of t ≡ staged operand (order_by moves count) (parts_by moves) (formula_of body) len from) }
 {
     let mut term = body;
-    for done in 0..count {
-        term = stage_term(
-            alloc,
-            moves,
-            operand,
-            order(moves, count, count - 1 - done),
-            term,
-        )?;
+    for done in 0..len {
+        let select = order(moves, count, from + (len - 1 - done));
+        term = stage_term(alloc, moves, operand, select, term)?;
     }
     Ok(term)
 }
@@ -123,10 +122,10 @@ pub fn tree_term(
     taint: Term,
     body: Term,
 ) -> Result<Term, NoMemory>
-    requires { wide_by moves ≤ 65536 }
+    requires { FitsBy moves count }
     ensures { IfOk result (λ t.
         formula_of t ≡ tree operand (order_by moves count) (parts_by moves) (formula_of value) (formula_of taint) count (formula_of body)) }
 {
-    let staged = staged_term(alloc, moves, operand, count, body)?;
+    let staged = staged_term(alloc, moves, operand, count, 0, count, body)?;
     Term::name(alloc, value, Term::name(alloc, taint, staged)?)
 }
