@@ -1,0 +1,4 @@
+pub mod CoarseWords
+pub mod CoarseShapes
+pub mod CoarseDivisions
+pub mod CoarseProducts
