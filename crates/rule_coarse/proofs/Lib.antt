@@ -4,3 +4,4 @@ pub mod CoarseDivisions
 pub mod CoarseProducts
 pub mod CoarseQuotients
 pub mod CoarseKinds
+pub mod CoarseTerms
