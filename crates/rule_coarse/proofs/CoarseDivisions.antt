@@ -1,7 +1,7 @@
 -- Divisions that taint every bit or none.
 use Rattle.std.specs.Prelude.{ℕ, zero, suc, ◌≡◌, Bool, true, false, not, ◌&&◌, ◌||◌, List, [], ◌∷◌, length, refl}
 use Rattle.std.proofs.Common.{arith, ap, ◌∙◌}
-use Rattle.cif_defs.specs.Coarse.{division_taint, is_known_zero, max_word}
+use Rattle.cif_defs.specs.Coarse.{division_taint, max_word}
 use Rattle.cif_defs.specs.Words.{Word, extend, extended_bit, has_one, operand, word}
 use Rattle.cif_defs.specs.Kinds.{is_coarse}
 use Rattle.cif_defs.specs.Cells.{Cell, coarse_by, number_of, y_width}
@@ -67,8 +67,8 @@ value-division n v w x z =
     let ts : List Word = x ∷ z ∷ [] in
     value-everywhere n (Two And any_taint some_divisor) vs ts (divides x w z)
     (value-both any_taint some_divisor vs ts (has_one x || has_one z) (has_one (max_word w z))
-      (value-either (One ReduceOr (Taint 0)) (One ReduceOr (Taint 1)) vs ts (has_one x) (has_one z) (value-some (Taint 0) vs ts x refl) (value-some (Taint 1) vs ts z refl))
-      (value-some (max_formula 1) vs ts (max_word w z) (value-max 1 vs ts)))
+    (value-either (One ReduceOr (Taint 0)) (One ReduceOr (Taint 1)) vs ts (has_one x) (has_one z) (value-some (Taint 0) vs ts x refl) (value-some (Taint 1) vs ts z refl))
+    (value-some (max_formula 1) vs ts (max_word w z) (value-max 1 vs ts)))
 
 pub twice_not : (b : Bool) → b ≡ not (not b)
 twice_not true = refl

@@ -1,8 +1,7 @@
 -- Each coarse kind in turn: its formula gives its taint, within its weight.
-use Rattle.std.specs.Prelude.{ℕ, ◌<◌, ◌≤◌, ◌≡◌, Bool, true, false, List, [], ◌∷◌, length, refl, if◌then◌else◌}
-use Rattle.std.proofs.Common.{arith, sym, ap, subst, ◌∙◌}
-use Rattle.cif_defs.specs.Coarse.{division_taint, quotient_taint}
-use Rattle.cif_defs.specs.Words.{Word, operand}
+use Rattle.std.specs.Prelude.{◌≡◌, Bool, true, false, List, [], ◌∷◌, length, refl, if◌then◌else◌}
+use Rattle.std.proofs.Common.{ap, ◌∙◌}
+use Rattle.cif_defs.specs.Words.{Word}
 use Rattle.cif_defs.specs.Kinds.{is_coarse}
 use Rattle.cif_defs.specs.Cells.{Cell, both_signed, coarse_by, number_of, y_width}
 use Rattle.cif_defs.specs.Table.{operands_of, outputs_of, width_limit}
@@ -11,12 +10,10 @@ use Rattle.cif_defs.specs.Weights.{weight, weight_by}
 use Rattle.cif_defs.specs.declared.kinds.Kind.{Kind}
 use Rattle.cif_defs.specs.declared.kinds.Kind.TheVariants.{Mul, Div, Mod, DivFloor, ModFloor}
 use Rattle.cif_defs.specs.declared.kinds.Param.TheVariants.{AWidth, BWidth}
-use Rattle.cif_term.specs.declared.term.Term.{Term}
-use Rattle.cif_term.specs.TermView.{formula_of}
-use Rattle.cif_term.specs.CellTaints.{AreTaintsOf, IsTaintOf}
+use Rattle.cif_term.specs.CellTaints.{AreTaintsOf}
 use Rattle.cif_term.proofs.CellTaints.{one_output}
 use Rattle.rule_logic.proofs.LogicTaints.{IsRule}
-use Rattle.rule_coarse.specs.CoarseFormulas.{coarse_formula, coarse_formula_by, covers_coarse, div_formula, division_formula, quotient_formula}
+use Rattle.rule_coarse.specs.CoarseFormulas.{coarse_formula, coarse_formula_by, covers_coarse, division_formula, quotient_formula}
 use Rattle.rule_coarse.proofs.CoarseShapes.{IsNumeric, numeric}
 use Rattle.rule_coarse.proofs.CoarseDivisions.{division_row, division_rule}
 use Rattle.rule_coarse.proofs.CoarseProducts.{product_row, product_rule}

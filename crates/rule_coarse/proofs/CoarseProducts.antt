@@ -1,5 +1,5 @@
 -- Products: every bit from the lowest tainted place on.
-use Rattle.std.specs.Prelude.{ℕ, ◌+◌, ◌≤◌, ◌≡◌, Bool, true, not, ◌&&◌, ◌||◌, List, [], ◌∷◌, length, take, refl}
+use Rattle.std.specs.Prelude.{ℕ, ◌+◌, ◌≤◌, ◌≡◌, Bool, true, not, ◌&&◌, List, [], ◌∷◌, length, take}
 use Rattle.std.proofs.Common.{arith, sym, ap, ◌∙◌}
 use Rattle.cif_defs.specs.Coarse.{either_taint, max_word, product_taint}
 use Rattle.cif_defs.specs.Words.{Word, extend, extended_bit, has_one, operand, word}
@@ -10,10 +10,10 @@ use Rattle.cif_defs.specs.declared.kinds.Param.TheVariants.{AWidth, BWidth}
 use Rattle.cif_defs.proofs.WordLaws.{length-word}
 use Rattle.cif_term.specs.declared.ops.Op1.TheVariants.{Not, ReduceOr}
 use Rattle.cif_term.specs.declared.ops.Op2.TheVariants.{Add, And, Or}
-use Rattle.cif_term.specs.Formulas.{Const, Formula, One, Taint, Two, Value, IsFormed, one_word, two_word, value_of}
+use Rattle.cif_term.specs.Formulas.{Const, Formula, Taint, Two, Value, IsFormed, one_word, two_word, value_of}
 use Rattle.cif_term.proofs.Forms.{formed_const}
 use Rattle.cif_term.proofs.Values.{value-and, value-extended, value-or}
-use Rattle.rule_logic.specs.LogicFormulas.{taint_at, value_at}
+use Rattle.rule_logic.specs.LogicFormulas.{taint_at}
 use Rattle.rule_logic.proofs.LogicTaints.{IsRule}
 use Rattle.rule_logic.proofs.LogicValues.{value-both}
 use Rattle.rule_coarse.specs.CoarseFormulas.{everywhere, from_lowest, ones, product_formula, some_factor}
@@ -71,7 +71,7 @@ value-product n a b s v w x z some_a some_b p q r t =
     value-and n (λ i. factor n s v x && factor n s w z) (λ i. has_one (take (i + 1) (either_taint n s x z)))
     (everywhere n (Two And (some_factor n s a 0) (some_factor n s b 1))) (from_lowest n (Two Or (taint_at n s a 0) (taint_at n s b 1))) vs ts []
     (value-everywhere n (Two And (some_factor n s a 0) (some_factor n s b 1)) vs ts (factor n s v x && factor n s w z)
-      (value-both (some_factor n s a 0) (some_factor n s b 1) vs ts (factor n s v x) (factor n s w z) (value-factor n a 0 s vs ts some_a p r) (value-factor n b 1 s vs ts some_b q t)))
+    (value-both (some_factor n s a 0) (some_factor n s b 1) vs ts (factor n s v x) (factor n s w z) (value-factor n a 0 s vs ts some_a p r) (value-factor n b 1 s vs ts some_b q t)))
     (value-from_lowest n (Two Or (taint_at n s a 0) (taint_at n s b 1)) vs ts [] (either_taint n s x z) low (length-word n _))
     ∙ product_word n s v w x z
 

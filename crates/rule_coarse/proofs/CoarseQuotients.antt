@@ -1,7 +1,7 @@
 -- Unsigned quotients: every bit up to the highest place where the least and the largest quotient differ.
-use Rattle.std.specs.Prelude.{ℕ, ◌+◌, ◌-◌, ◌*◌, ◌/◌, ◌%◌, ◌^◌, ◌<◌, ◌≤◌, ◌≡◌, ◌⊎◌, ◌==◌, nat_lt, max, Bool, true, false, not, ◌&&◌, ◌||◌, List, [], ◌∷◌, length, take, drop, map, get_or, refl, if◌then◌else◌}
+use Rattle.std.specs.Prelude.{ℕ, ◌+◌, ◌-◌, ◌/◌, ◌%◌, ◌^◌, ◌<◌, ◌≤◌, ◌≡◌, ◌⊎◌, ◌==◌, nat_lt, max, Bool, true, false, not, ◌&&◌, ◌||◌, List, [], ◌∷◌, length, take, drop, refl, if◌then◌else◌}
 use Rattle.std.specs.List.{list_all, range_with_len}
-use Rattle.std.proofs.Common.{arith, sym, ap, ◌∙◌, cond, inl, inr}
+use Rattle.std.proofs.Common.{arith, sym, ap, ◌∙◌, inl, inr}
 use Rattle.std.proofs.Math.Nat.{div-eq_of_lt, div-le_self, mod-eq_of_lt, zero-div}
 use Rattle.std.proofs.Math.Pow.{pow_mono}
 use Rattle.std.proofs.lemmas.Bool.Decides.{nat_tests}
@@ -10,7 +10,7 @@ use Rattle.std.proofs.lemmas.List.FromFn.{length-range_with_len}
 use Rattle.std.proofs.lemmas.List.Folds.{list_all-map}
 use Rattle.std.proofs.lemmas.Int.{ints}
 use Rattle.cif_defs.specs.Coarse.{high_quotient, low_quotient, max_word, min_word, quotient_taint}
-use Rattle.cif_defs.specs.Words.{Word, bit, digit, extend, extended_bit, has_one, int_number, number, operand, word, word_of, xor, zeros}
+use Rattle.cif_defs.specs.Words.{Word, bit, extend, extended_bit, has_one, number, operand, word, word_of, zeros}
 use Rattle.cif_defs.specs.Kinds.{is_coarse}
 use Rattle.cif_defs.specs.Cells.{Cell, coarse_by, number_of, y_width}
 use Rattle.cif_defs.specs.Weights.{weight}
@@ -21,16 +21,16 @@ use Rattle.cif_defs.proofs.WordLaws.{bit-word, length-word, le_or_lt, past_word}
 use Rattle.cif_defs.proofs.WordNumbers.{int_number-extend, number-word_of, number_below, word_of-number}
 use Rattle.cif_term.specs.declared.ops.Op1.TheVariants.{Not, ReduceOr}
 use Rattle.cif_term.specs.declared.ops.Op2.TheVariants.{And, Div, Or, Xor}
-use Rattle.cif_term.specs.Formulas.{Bound, Choose, Const, Formula, Let, One, Pick, Taint, Two, Value, IsFormed, one_word, picked, two_word, value_of}
+use Rattle.cif_term.specs.Formulas.{Bound, Choose, Const, Formula, Two, IsFormed, picked, two_word, value_of}
 use Rattle.cif_term.specs.Extended.{extended}
 use Rattle.cif_term.proofs.Forms.{formed_bound, formed_const, formed_let, formed_pick}
-use Rattle.cif_term.proofs.Values.{value-and, value-extended, value-xor}
+use Rattle.cif_term.proofs.Values.{value-and, value-extended}
 use Rattle.rule_logic.specs.LogicFormulas.{max_formula, min_formula}
 use Rattle.rule_logic.proofs.LogicTaints.{IsRule}
-use Rattle.rule_logic.proofs.LogicValues.{value-max, value-min, value-some}
+use Rattle.rule_logic.proofs.LogicValues.{value-min, value-some}
 use Rattle.rule_coarse.specs.CoarseFormulas.{differing, division_formula, from_lowest, largest, largest_quotient, least, least_quotient, places_down, quotient_formula, sure_divisor, to_highest, turned}
 use Rattle.rule_coarse.proofs.CoarseWords.{difference, down, down_to, picked-down, quotients_differ, some_number}
-use Rattle.rule_coarse.proofs.CoarseShapes.{IsNumeric, IsShort, choose_short, coarse_rule, extended_short, one_bit, one_short, two_short}
+use Rattle.rule_coarse.proofs.CoarseShapes.{IsNumeric, IsShort, choose_short, coarse_rule, extended_short, one_short, two_short}
 use Rattle.rule_coarse.proofs.CoarseDivisions.{divides, formed_division, leaf_a, leaf_b, leaf_ta, leaf_tb, value-division}
 use Rattle.rule_coarse.proofs.CoarseProducts.{formed_from_lowest, value-from_lowest}
 
@@ -269,4 +269,4 @@ quotient_rule c u weighs coarse is =
     (formed_quotient (y_width c) (number_of c AWidth) (number_of c BWidth) u.y a b) (omega arith) coarse is
     (λ vs ts. length-word (y_width c) _)
     (λ v w x z p q r s. value-quotient (y_width c) (number_of c AWidth) (number_of c BWidth) v w x z
-      (record { some_a = a.some; some_b = b.some; fit_a = omega arith; fit_b = omega arith; long_v = p; long_w = q; long_x = r; long_z = s }))
+    (record { some_a = a.some; some_b = b.some; fit_a = omega arith; fit_b = omega arith; long_v = p; long_w = q; long_x = r; long_z = s }))

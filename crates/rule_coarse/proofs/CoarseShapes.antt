@@ -1,8 +1,8 @@
 -- Cells of the coarse kinds, and what makes a formula the taint of such a cell.
-use Rattle.std.specs.Prelude.{ℕ, ◌+◌, ◌<◌, ◌≤◌, ◌≡◌, ◌≢◌, Bool, true, false, not, List, [], ◌∷◌, map, length, get_or, refl, if◌then◌else◌, Some}
+use Rattle.std.specs.Prelude.{ℕ, ◌+◌, ◌<◌, ◌≤◌, ◌≡◌, ◌≢◌, Bool, true, false, List, [], ◌∷◌, map, length, get_or, if◌then◌else◌, Some}
 use Rattle.std.proofs.Common.{arith, sym, ap, ◌∙◌}
 use Rattle.std.proofs.lemmas.Bool.Decides.{nat_tests}
-use Rattle.cif_defs.specs.Words.{Word, bit, word}
+use Rattle.cif_defs.specs.Words.{Word, bit}
 use Rattle.cif_defs.specs.Kinds.{is_coarse}
 use Rattle.cif_defs.specs.Cells.{Cell, coarse_by, number_of, y_width}
 use Rattle.cif_defs.specs.Table.{a_row, b_row, y_row, operands_of, outputs_of, width_limit}
@@ -20,7 +20,7 @@ use Rattle.cif_term.specs.declared.ops.Op1.TheVariants.{Not, ReduceAnd, ReduceOr
 use Rattle.cif_term.specs.declared.ops.Op2.{Op2}
 use Rattle.cif_term.specs.declared.ops.Op2.TheVariants.{And, Or, Xor, Add, Mul, Div, LessUnsigned, LessSigned, Equal}
 use Rattle.cif_term.specs.Formulas.{Formula, One, Two, Choose, IsFormed, cost_of, joined_pieces, one_cost, one_width, pieces, two_cost, two_width, value_of, width_of}
-use Rattle.cif_term.specs.CellTaints.{IsTaintOf, output_width, taint_word}
+use Rattle.cif_term.specs.CellTaints.{output_width, taint_word}
 use Rattle.cif_term.specs.Extended.{extended}
 use Rattle.cif_term.proofs.Forms.{formed_choose, formed_extended, formed_one, formed_two, pieces_narrow, raised}
 use Rattle.rule_logic.proofs.LogicTaints.{IsRule}
@@ -97,22 +97,22 @@ one_bit = record { some = omega arith; limit = omega arith }
 pub coarse_taint : (c : Cell) (vs ts : List Word) (w : Word) → is_coarse c.kind ≡ true → coarse_by c.kind c vs ts ≡ w → length w ≡ output_width c 0 → w ≡ taint_word c vs ts 0
 coarse_taint c vs ts w coarse e long = same_words w (taint_word c vs ts 0) (long ∙ sym (length-word (output_width c 0) _))
     (λ i h. let l : i < output_width c 0 = omega (arith, long) in
-      sym (ap (λ (x : Word). bit x i) e) ∙ sym (ap (λ b. if b then bit (coarse_by c.kind c vs ts) i else can_differ (output_bit c 0 i) vs ts) coarse)
-      ∙ sym (bit-word (output_width c 0) (λ k. output_taint c 0 k vs ts) i false l))
+    sym (ap (λ (x : Word). bit x i) e) ∙ sym (ap (λ b. if b then bit (coarse_by c.kind c vs ts) i else can_differ (output_bit c 0 i) vs ts) coarse)
+    ∙ sym (bit-word (output_width c 0) (λ k. output_taint c 0 k vs ts) i false l))
 
 -- a formula that gives the word of a kind's coarse taint, and costs at most k
 pub coarse_rule : (c : Cell) (f : Formula) (k : ℕ) (row : List Word → List Word → Word) → IsNumeric c → IsFormed f (number_of c AWidth ∷ number_of c BWidth ∷ []) [] (y_width c) k → k ≤ weight c
     → is_coarse c.kind ≡ true → ((vs ts : List Word) → coarse_by c.kind c vs ts ≡ row vs ts) → ((vs ts : List Word) → length (row vs ts) ≡ y_width c)
     → ((v w x z : Word) → length v ≡ number_of c AWidth → length w ≡ number_of c BWidth → length x ≡ number_of c AWidth → length z ≡ number_of c BWidth
-      → value_of f (v ∷ w ∷ []) (x ∷ z ∷ []) [] ≡ row (v ∷ w ∷ []) (x ∷ z ∷ [])) → IsRule c f
+    → value_of f (v ∷ w ∷ []) (x ∷ z ∷ []) [] ≡ row (v ∷ w ∷ []) (x ∷ z ∷ [])) → IsRule c f
 coarse_rule c f k row u formed l coarse is long value = record {
   taint = record {
     formed = ap (λ ws. width_of f ws []) u.widths ∙ formed.width ∙ ap (λ n. Some n) (sym u.output);
     means = λ vs ts a b. two_words (λ us. value_of f us ts [] ≡ taint_word c us ts 0) (number_of c AWidth) (number_of c BWidth)
-      (λ v w p q. two_words (λ us. value_of f (v ∷ w ∷ []) us [] ≡ taint_word c (v ∷ w ∷ []) us 0) (number_of c AWidth) (number_of c BWidth)
+        (λ v w p q. two_words (λ us. value_of f (v ∷ w ∷ []) us [] ≡ taint_word c (v ∷ w ∷ []) us 0) (number_of c AWidth) (number_of c BWidth)
         (λ x z r s. value v w x z p q r s ∙ coarse_taint c (v ∷ w ∷ []) (x ∷ z ∷ []) (row (v ∷ w ∷ []) (x ∷ z ∷ [])) coarse (is (v ∷ w ∷ []) (x ∷ z ∷ [])) (long (v ∷ w ∷ []) (x ∷ z ∷ []) ∙ sym u.output))
         ts (b ∙ u.widths)) vs (a ∙ u.widths);
   };
   cost = (let bound : cost_of f (number_of c AWidth ∷ number_of c BWidth ∷ []) [] ≤ k = formed.cost in
-    let same : cost_of f (operand_widths c) [] ≡ cost_of f (number_of c AWidth ∷ number_of c BWidth ∷ []) [] = ap (λ ws. cost_of f ws []) u.widths in omega arith);
+      let same : cost_of f (operand_widths c) [] ≡ cost_of f (number_of c AWidth ∷ number_of c BWidth ∷ []) [] = ap (λ ws. cost_of f ws []) u.widths in omega arith);
 }

@@ -1,5 +1,5 @@
 -- Words whose bits say where another word has its lowest or its highest 1.
-use Rattle.std.specs.Prelude.{ℕ, zero, suc, ◌+◌, ◌-◌, ◌*◌, ◌/◌, ◌^◌, ◌<◌, ◌≤◌, ◌≡◌, ◌≢◌, ◌==◌, Bool, true, false, not, ◌||◌, [], ◌∷◌, length, take, drop, map, refl}
+use Rattle.std.specs.Prelude.{ℕ, zero, suc, ◌+◌, ◌-◌, ◌*◌, ◌/◌, ◌^◌, ◌<◌, ◌≤◌, ◌≡◌, ◌==◌, Bool, true, false, not, ◌||◌, [], ◌∷◌, length, take, drop, refl}
 use Rattle.std.specs.List.{range_with_len}
 use Rattle.std.proofs.Common.{arith, sym, ap, ◌∙◌}
 use Rattle.std.proofs.Math.Nat.{div-one, div-div-eq-div-mul, pow-succ', zero-div}
@@ -13,7 +13,7 @@ use Rattle.cif_defs.proofs.Exact.{true_by}
 use Rattle.cif_defs.proofs.WordLaws.{bit-word, length-word, same_words}
 use Rattle.cif_defs.proofs.WordNumbers.{digit-number, extend-same}
 use Rattle.cif_defs.proofs.Numbers.{number_zero, word-same}
-use Rattle.cif_defs.proofs.Sums.{bit-ripple, carry, ripple, sum_bit, word_of-sum}
+use Rattle.cif_defs.proofs.Sums.{bit-ripple, carry, ripple, word_of-sum}
 use Rattle.cif_term.specs.declared.ops.Op1.TheVariants.{Not}
 use Rattle.cif_term.specs.declared.ops.Op2.TheVariants.{Or, Add}
 use Rattle.cif_term.specs.Formulas.{one_word, picked, two_word}
@@ -119,7 +119,7 @@ below_from_above m i w e h t =
     let place : m - 1 - (m - 1 - (i + j)) ≡ i + j = omega arith in
     one_at (take (m - 1 - i + 1) (down m w)) (m - 1 - (i + j))
     (bit-taken (m - 1 - i + 1) (down m w) (m - 1 - (i + j)) (omega arith) ∙ bit-word m (λ k. bit w (m - 1 - k)) (m - 1 - (i + j)) false (omega arith)
-      ∙ ap (bit w) place ∙ sym (get_or-drop i w j false) ∙ one)
+    ∙ ap (bit w) place ∙ sym (get_or-drop i w j false) ∙ one)
 
 -- from the highest down to place i, and from place i up
 pub down_to : (m i : ℕ) (w : Word) → length w ≡ m → i < m → has_one (take (m - 1 - i + 1) (down m w)) ≡ has_one (drop i w)
@@ -176,11 +176,11 @@ difference-drop : (i : ℕ) (u v : Word) → length v ≡ length u → differenc
 difference-drop i u v e = same_words _ _
     (length-word (length (drop i u)) _ ∙ (omega (arith, length-drop i u, length-drop i (difference u v), length-word (length u) (λ k. xor (bit u k) (bit v k)))))
     (λ k h.
-      let l : k < length (drop i u) = omega (arith, length-word (length (drop i u)) (λ j. xor (bit (drop i u) j) (bit (drop i v) j))) in
-      bit-word (length (drop i u)) (λ j. xor (bit (drop i u) j) (bit (drop i v) j)) k false l
-      ∙ ap (λ b. xor b (bit (drop i v) k)) (get_or-drop i u k false) ∙ ap (xor (bit u (i + k))) (get_or-drop i v k false)
-      ∙ sym (bit-word (length u) (λ j. xor (bit u j) (bit v j)) (i + k) false (omega (arith, length-drop i u)))
-      ∙ sym (get_or-drop i (difference u v) k false))
+    let l : k < length (drop i u) = omega (arith, length-word (length (drop i u)) (λ j. xor (bit (drop i u) j) (bit (drop i v) j))) in
+    bit-word (length (drop i u)) (λ j. xor (bit (drop i u) j) (bit (drop i v) j)) k false l
+    ∙ ap (λ b. xor b (bit (drop i v) k)) (get_or-drop i u k false) ∙ ap (xor (bit u (i + k))) (get_or-drop i v k false)
+    ∙ sym (bit-word (length u) (λ j. xor (bit u j) (bit v j)) (i + k) false (omega (arith, length-drop i u)))
+    ∙ sym (get_or-drop i (difference u v) k false))
 
 -- two numbers differ from place i up where their words do
 pub quotients_differ : (i : ℕ) (u v : Word) → length v ≡ length u → not (number u / 2 ^ i == number v / 2 ^ i) ≡ has_one (drop i (difference u v))
@@ -195,5 +195,6 @@ some_number w = same_tests _ _ (one_counts w) (counts_one w) where
   one_counts [] h = absurd (let e : false ≡ true = h in cc)
   one_counts (true ∷ w) h = grind (arith, nat_tests)
   one_counts (false ∷ w) h = let rest : not (number w == 0) ≡ true = one_counts w h in grind (arith, nat_tests)
+
   counts_one : (w : Word) → not (number w == 0) ≡ true → has_one w ≡ true
   counts_one w h = true_by (has_one w) (λ none. let z : number w ≡ 0 = number_zero w (has_none w none) in (grind (arith, nat_tests)))

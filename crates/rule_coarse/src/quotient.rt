@@ -61,9 +61,11 @@ fn largest_quotient_term(alloc: Global, width: u32, a: u32, b: u32) -> Result<Te
 fn places(alloc: Global, width: u32) -> Result<Vec<u32>, NoMemory>
     ensures { IfOk result (λ v. v.items ≡ places_down width) }
 {
-    Ok((0..width)
-        .map(|place| (width - 1).saturating_sub(place))
-        .collect(alloc)?)
+    Ok(
+        (0..width)
+            .map(|place| (width - 1).saturating_sub(place))
+            .collect(alloc)?,
+    )
 }
 
 /// A part of `width` bits, the highest first.
