@@ -857,6 +857,15 @@ pub fn is_built(kind: Kind) -> bool
             | Kind::Sshr
             | Kind::Shift
             | Kind::Shiftx
+            | Kind::Mul
+            | Kind::Div
+            | Kind::Mod
+            | Kind::DivFloor
+            | Kind::ModFloor
+            | Kind::Pmux
+            | Kind::Bmux
+            | Kind::Demux
+            | Kind::Lut
             | Kind::Mux
             | Kind::Dff
             | Kind::ScopeInfo

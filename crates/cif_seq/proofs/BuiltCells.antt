@@ -10,7 +10,7 @@ use Rattle.cif_defs.specs.Cells.{Cell}
 use Rattle.cif_defs.specs.Netlist.{cell_at, role_at, no_cell}
 use Rattle.cif_defs.specs.Loop.{is_passing}
 use Rattle.cif_defs.specs.declared.kinds.Kind.{Kind}
-use Rattle.cif_defs.specs.declared.kinds.Kind.TheVariants.{Not, Pos, And, Or, Xor, Xnor, ReduceAnd, ReduceOr, ReduceXor, ReduceXnor, ReduceBool, LogicNot, LogicAnd, LogicOr, Concat, Slice, Fa, Neg, Add, Sub, Alu, Lt, Le, Ge, Gt, Eq, Ne, Eqx, Nex, Shl, Sshl, Shr, Sshr, Shift, Shiftx, Mux, Dff, ScopeInfo}
+use Rattle.cif_defs.specs.declared.kinds.Kind.TheVariants.{Not, Pos, And, Or, Xor, Xnor, ReduceAnd, ReduceOr, ReduceXor, ReduceXnor, ReduceBool, LogicNot, LogicAnd, LogicOr, Concat, Slice, Fa, Neg, Add, Sub, Alu, Lt, Le, Ge, Gt, Eq, Ne, Eqx, Nex, Shl, Sshl, Shr, Sshr, Shift, Shiftx, Mul, Div, Mod, DivFloor, ModFloor, Pmux, Bmux, Demux, Lut, Mux, Dff, ScopeInfo}
 use Rattle.cif_defs.specs.declared.kinds.Role.TheVariants.{Combinational}
 use Rattle.cif_defs.specs.declared.raw_module.RawCell.{RawCell}
 use Rattle.cif_defs.specs.declared.raw_module.Raw.{Raw}
@@ -87,6 +87,15 @@ passing_kind Shr b p = refl
 passing_kind Sshr b p = refl
 passing_kind Shift b p = refl
 passing_kind Shiftx b p = refl
+passing_kind Mul b p = refl
+passing_kind Div b p = refl
+passing_kind Mod b p = refl
+passing_kind DivFloor b p = refl
+passing_kind ModFloor b p = refl
+passing_kind Pmux b p = refl
+passing_kind Bmux b p = refl
+passing_kind Demux b p = refl
+passing_kind Lut b p = refl
 passing_kind Mux b p = refl
 passing_kind Dff b p = absurd (cc)
 passing_kind ScopeInfo b p = absurd (cc)

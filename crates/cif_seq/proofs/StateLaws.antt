@@ -14,7 +14,7 @@ use Rattle.cif_defs.specs.Stimulus.{Stimulus, start_at}
 use Rattle.cif_defs.specs.Run.{stored_by, operand_words}
 use Rattle.cif_defs.specs.TaintRun.{taint_stored_by, operand_taints}
 use Rattle.cif_defs.specs.declared.kinds.Kind.{Kind}
-use Rattle.cif_defs.specs.declared.kinds.Kind.TheVariants.{Not, Pos, And, Or, Xor, Xnor, ReduceAnd, ReduceOr, ReduceXor, ReduceXnor, ReduceBool, LogicNot, LogicAnd, LogicOr, Concat, Slice, Fa, Neg, Add, Sub, Alu, Lt, Le, Ge, Gt, Eq, Ne, Eqx, Nex, Shl, Sshl, Shr, Sshr, Shift, Shiftx, Mux, Dff, ScopeInfo}
+use Rattle.cif_defs.specs.declared.kinds.Kind.TheVariants.{Not, Pos, And, Or, Xor, Xnor, ReduceAnd, ReduceOr, ReduceXor, ReduceXnor, ReduceBool, LogicNot, LogicAnd, LogicOr, Concat, Slice, Fa, Neg, Add, Sub, Alu, Lt, Le, Ge, Gt, Eq, Ne, Eqx, Nex, Shl, Sshl, Shr, Sshr, Shift, Shiftx, Mul, Div, Mod, DivFloor, ModFloor, Pmux, Bmux, Demux, Lut, Mux, Dff, ScopeInfo}
 use Rattle.cif_defs.specs.declared.kinds.Role.{Role}
 use Rattle.cif_defs.specs.declared.kinds.Role.TheVariants.{Combinational, PlainRegister, ResetRegister, MemoryBlock, CarriedOver}
 use Rattle.cif_defs.proofs.WordLaws.{le_or_lt, length-word, bit-word, same_words}
@@ -63,6 +63,15 @@ no_state Shr b n = inl refl
 no_state Sshr b n = inl refl
 no_state Shift b n = inl refl
 no_state Shiftx b n = inl refl
+no_state Mul b n = inl refl
+no_state Div b n = inl refl
+no_state Mod b n = inl refl
+no_state DivFloor b n = inl refl
+no_state ModFloor b n = inl refl
+no_state Pmux b n = inl refl
+no_state Bmux b n = inl refl
+no_state Demux b n = inl refl
+no_state Lut b n = inl refl
 no_state Mux b n = inl refl
 no_state ScopeInfo b n = inr refl
 no_state Dff b n = absurd (n refl)

@@ -13,7 +13,7 @@ use Rattle.cif_defs.specs.Fitted.{AllWithin, IsFitted, IsWithin, operand_widths,
 use Rattle.cif_defs.specs.Run.{src_word, words_under}
 use Rattle.cif_defs.specs.TaintRun.{taint_word as taint_bits}
 use Rattle.cif_defs.specs.declared.kinds.Kind.{Kind}
-use Rattle.cif_defs.specs.declared.kinds.Kind.TheVariants.{Not, Pos, And, Or, Xor, Xnor, ReduceAnd, ReduceOr, ReduceXor, ReduceXnor, ReduceBool, LogicNot, LogicAnd, LogicOr, Concat, Slice, Fa, Neg, Add, Sub, Alu, Lt, Le, Ge, Gt, Eq, Ne, Eqx, Nex, Shl, Sshl, Shr, Sshr, Shift, Shiftx, Mux, Dff, ScopeInfo, Mem}
+use Rattle.cif_defs.specs.declared.kinds.Kind.TheVariants.{Not, Pos, And, Or, Xor, Xnor, ReduceAnd, ReduceOr, ReduceXor, ReduceXnor, ReduceBool, LogicNot, LogicAnd, LogicOr, Concat, Slice, Fa, Neg, Add, Sub, Alu, Lt, Le, Ge, Gt, Eq, Ne, Eqx, Nex, Shl, Sshl, Shr, Sshr, Shift, Shiftx, Mul, Div, Mod, DivFloor, ModFloor, Pmux, Bmux, Demux, Lut, Mux, Dff, ScopeInfo, Mem}
 use Rattle.cif_defs.specs.declared.kinds.PortRow.{PortRow}
 use Rattle.cif_defs.specs.declared.kinds.Role.TheVariants.{Combinational}
 use Rattle.cif_defs.specs.declared.nets.Src.{Src}
@@ -25,54 +25,115 @@ use Rattle.cif_term.specs.TermView.{formula_of}
 use Rattle.cif_term.specs.CellTaints.{AreTaintsOf, output_width, taint_word}
 use Rattle.rule_logic.specs.LogicFormulas.{covers_logic}
 use Rattle.rule_arith.specs.ArithFormulas.{covers_arith}
+use Rattle.rule_coarse.specs.CoarseFormulas.{covers_coarse}
 use Rattle.rule_select.specs.Selects.{is_select}
 use Rattle.cif_seq.specs.CellWords.{AreNarrow, GivesExactly, taint_words}
+use Rattle.cif_seq.specs.Covering.{crates_of}
 
 -- ---- each built combinational kind has its terms
 
-covered_by : (k : Kind) → is_built k ≡ true → role_of k ≡ Combinational → covers_logic k ≡ false → covers_arith k ≡ false → is_select k ≡ true
-covered_by Not b r h a = absurd (cc)
-covered_by Pos b r h a = absurd (cc)
-covered_by And b r h a = absurd (cc)
-covered_by Or b r h a = absurd (cc)
-covered_by Xor b r h a = absurd (cc)
-covered_by Xnor b r h a = absurd (cc)
-covered_by ReduceAnd b r h a = absurd (cc)
-covered_by ReduceOr b r h a = absurd (cc)
-covered_by ReduceXor b r h a = absurd (cc)
-covered_by ReduceXnor b r h a = absurd (cc)
-covered_by ReduceBool b r h a = absurd (cc)
-covered_by LogicNot b r h a = absurd (cc)
-covered_by LogicAnd b r h a = absurd (cc)
-covered_by LogicOr b r h a = absurd (cc)
-covered_by Concat b r h a = absurd (cc)
-covered_by Slice b r h a = absurd (cc)
-covered_by Fa b r h a = absurd (cc)
-covered_by Neg b r h a = absurd (cc)
-covered_by Add b r h a = absurd (cc)
-covered_by Sub b r h a = absurd (cc)
-covered_by Alu b r h a = absurd (cc)
-covered_by Lt b r h a = absurd (cc)
-covered_by Le b r h a = absurd (cc)
-covered_by Ge b r h a = absurd (cc)
-covered_by Gt b r h a = absurd (cc)
-covered_by Eq b r h a = absurd (cc)
-covered_by Ne b r h a = absurd (cc)
-covered_by Eqx b r h a = absurd (cc)
-covered_by Nex b r h a = absurd (cc)
-covered_by Shl b r h a = refl
-covered_by Sshl b r h a = refl
-covered_by Shr b r h a = refl
-covered_by Sshr b r h a = refl
-covered_by Shift b r h a = refl
-covered_by Shiftx b r h a = refl
-covered_by Mux b r h a = refl
-covered_by Dff b r h a = absurd (cc)
-covered_by ScopeInfo b r h a = absurd (cc)
-covered_by _ b r h a = absurd (cc)
+covered_by : (k : Kind) → is_built k ≡ true → role_of k ≡ Combinational → covers_logic k ≡ false → covers_arith k ≡ false → covers_coarse k ≡ false → is_select k ≡ true
+covered_by Not b r h a c = absurd (cc)
+covered_by Pos b r h a c = absurd (cc)
+covered_by And b r h a c = absurd (cc)
+covered_by Or b r h a c = absurd (cc)
+covered_by Xor b r h a c = absurd (cc)
+covered_by Xnor b r h a c = absurd (cc)
+covered_by ReduceAnd b r h a c = absurd (cc)
+covered_by ReduceOr b r h a c = absurd (cc)
+covered_by ReduceXor b r h a c = absurd (cc)
+covered_by ReduceXnor b r h a c = absurd (cc)
+covered_by ReduceBool b r h a c = absurd (cc)
+covered_by LogicNot b r h a c = absurd (cc)
+covered_by LogicAnd b r h a c = absurd (cc)
+covered_by LogicOr b r h a c = absurd (cc)
+covered_by Concat b r h a c = absurd (cc)
+covered_by Slice b r h a c = absurd (cc)
+covered_by Fa b r h a c = absurd (cc)
+covered_by Neg b r h a c = absurd (cc)
+covered_by Add b r h a c = absurd (cc)
+covered_by Sub b r h a c = absurd (cc)
+covered_by Alu b r h a c = absurd (cc)
+covered_by Lt b r h a c = absurd (cc)
+covered_by Le b r h a c = absurd (cc)
+covered_by Ge b r h a c = absurd (cc)
+covered_by Gt b r h a c = absurd (cc)
+covered_by Eq b r h a c = absurd (cc)
+covered_by Ne b r h a c = absurd (cc)
+covered_by Eqx b r h a c = absurd (cc)
+covered_by Nex b r h a c = absurd (cc)
+covered_by Shl b r h a c = refl
+covered_by Sshl b r h a c = refl
+covered_by Shr b r h a c = refl
+covered_by Sshr b r h a c = refl
+covered_by Shift b r h a c = refl
+covered_by Shiftx b r h a c = refl
+covered_by Mul b r h a c = absurd (cc)
+covered_by Div b r h a c = absurd (cc)
+covered_by Mod b r h a c = absurd (cc)
+covered_by DivFloor b r h a c = absurd (cc)
+covered_by ModFloor b r h a c = absurd (cc)
+covered_by Pmux b r h a c = refl
+covered_by Bmux b r h a c = refl
+covered_by Demux b r h a c = refl
+covered_by Lut b r h a c = refl
+covered_by Mux b r h a c = refl
+covered_by Dff b r h a c = absurd (cc)
+covered_by ScopeInfo b r h a c = absurd (cc)
+covered_by _ b r h a c = absurd (cc)
 
-pub covered : (k q : Kind) (t u : Bool) → is_built k ≡ true → role_of k ≡ Combinational → q ≡ k → t ≡ covers_logic q → t ≡ false → u ≡ covers_arith q → u ≡ false → is_select k ≡ true
-covered k q t u b r f e h g i = covered_by k b r (sym (e ∙ ap covers_logic f) ∙ h) (sym (g ∙ ap covers_arith f) ∙ i)
+pub covered : (k q : Kind) (t u v : Bool) → is_built k ≡ true → role_of k ≡ Combinational → q ≡ k → t ≡ covers_logic q → t ≡ false → u ≡ covers_arith q → u ≡ false → v ≡ covers_coarse q → v ≡ false → is_select k ≡ true
+covered k q t u v b r f e h g i l m = covered_by k b r (sym (e ∙ ap covers_logic f) ∙ h) (sym (g ∙ ap covers_arith f) ∙ i) (sym (l ∙ ap covers_coarse f) ∙ m)
+
+-- ---- and each combinational kind has them in one crate
+
+pub once : (k : Kind) → role_of k ≡ Combinational → crates_of k ≡ 1
+once Not r = refl
+once Pos r = refl
+once And r = refl
+once Or r = refl
+once Xor r = refl
+once Xnor r = refl
+once ReduceAnd r = refl
+once ReduceOr r = refl
+once ReduceXor r = refl
+once ReduceXnor r = refl
+once ReduceBool r = refl
+once LogicNot r = refl
+once LogicAnd r = refl
+once LogicOr r = refl
+once Concat r = refl
+once Slice r = refl
+once Fa r = refl
+once Neg r = refl
+once Add r = refl
+once Sub r = refl
+once Alu r = refl
+once Lt r = refl
+once Le r = refl
+once Ge r = refl
+once Gt r = refl
+once Eq r = refl
+once Ne r = refl
+once Eqx r = refl
+once Nex r = refl
+once Shl r = refl
+once Sshl r = refl
+once Shr r = refl
+once Sshr r = refl
+once Shift r = refl
+once Shiftx r = refl
+once Mul r = refl
+once Div r = refl
+once Mod r = refl
+once DivFloor r = refl
+once ModFloor r = refl
+once Pmux r = refl
+once Bmux r = refl
+once Demux r = refl
+once Lut r = refl
+once Mux r = refl
+once _ r = absurd (cc)
 
 -- ---- the values of terms
 

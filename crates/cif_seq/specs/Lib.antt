@@ -1,3 +1,4 @@
+pub mod Covering
 pub mod CellWords
 pub mod Writes
 pub mod Settled

@@ -9,6 +9,8 @@ ghost use Rattle.cif_defs.specs.Fitted.{IsFitted, operand_widths};
 ghost use Rattle.cif_term.specs.CellTaints.{AreTaintsOf};
 ghost use Rattle.cif_term.specs.TermView.{formula_of};
 ghost use Rattle.cif_seq.specs.CellWords.{GivesExactly, taint_words};
+ghost use Rattle.cif_seq.specs.Covering.{crates_of};
+ghost use Rattle.cif_defs.specs.declared.kinds.Kind.{Kind as KindValue};
 
 use crate::bits::cut;
 use crate::gather::Word;
@@ -56,9 +58,17 @@ fn taint_terms(alloc: Global, cell: &Cell) -> Result<Vec<Term>, NoMemory>
         rule_logic::taint_terms(alloc, cell)
     } else if rule_arith::covers(kind) {
         rule_arith::taint_terms(alloc, cell)
+    } else if rule_coarse::covers(kind) {
+        rule_coarse::taint_terms(alloc, cell)
     } else {
         rule_select::taint_terms(alloc, cell)
     }
+}
+
+/// A law without a body: each combinational kind has its terms in exactly one of the rule crates.
+pub fn covered_once()
+    ensures { (k : KindValue) → role_of k ≡ Role.Combinational → crates_of k ≡ 1 }
+{
 }
 
 /// The values of terms, where `values` and `taints` are those of a cell's operands.

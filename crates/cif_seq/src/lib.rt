@@ -12,5 +12,5 @@ mod state;
 mod write;
 
 pub use case::Case;
-pub use cell::taint_of;
+pub use cell::{covered_once, taint_of};
 pub use frame::{Frame, first_frame, next_frame};
