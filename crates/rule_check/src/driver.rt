@@ -65,7 +65,7 @@ fn operand_bits(cell: &Cell) -> u32 {
 }
 
 /// The words of a cell's operands whose bits, those of the first operand lowest, are those of a number.
-fn words_of(alloc: Global, cell: &Cell, number: u64) -> Result<Vec<Bits>, NoMemory> {
+pub fn words_of(alloc: Global, cell: &Cell, number: u64) -> Result<Vec<Bits>, NoMemory> {
     let mut rest = number;
     let mut words = Vec::new(alloc);
     for sources in cell.operands() {

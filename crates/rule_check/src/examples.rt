@@ -5,7 +5,7 @@ ghost use Rattle.cif_defs.specs.Fitted.{IsFitted, operand_widths};
 ghost use Rattle.rule_check.specs.Rules.{has_rule};
 
 use crate::agree::agrees;
-use crate::driver::are_operands;
+use crate::driver::{are_operands, words_of};
 use crate::modules::{Shape, module_of};
 use crate::rules::{has_rule, taints_by_rule};
 use cif_bits::Bits;
@@ -100,6 +100,22 @@ fn assert_gives(
     assert!(rt; are_operands(cell, &operands.values));
     assert!(rt; are_operands(cell, &operands.taints));
     assert_cell_gives(rt, alloc, cell, &operands, wanted)
+}
+
+// 1010 is 0 for the one bit of A, and 101 for the three of B.
+#[test]
+fn words_of_a_number(rt: HostRuntime) -> Result<(), Fail> {
+    let shape = Shape {
+        kind: Kind::And,
+        numbers: &[0, 0, 1, 3, 3],
+    };
+    let netlist = Netlist::build(rt.alloc(), module_of(rt.alloc(), &shape)?)?;
+    let cells = netlist.cells();
+    assert_eq!(rt; cells.len(), 1);
+    let words = words_of(rt.alloc(), &cells[0], 10)?;
+    assert_eq!(rt; words.len(), 2);
+    assert_word(&rt, rt.alloc(), &words[..1], "0")?;
+    assert_word(&rt, rt.alloc(), &words[1..], "101")
 }
 
 #[test]
