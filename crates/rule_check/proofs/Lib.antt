@@ -1,0 +1,4 @@
+pub mod Widths
+pub mod Agreeing
+pub mod Terms
+pub mod Operands

@@ -1,0 +1,20 @@
+//! The rules of taint, compared with the enumeration of completions.
+//!
+//! A rule is a term that computes the taint of a cell; the enumeration tries every completion of the cell's operands. Both
+//! are proved to give the exact taint, so that they always agree: here they are run side by side over small widths, at
+//! all values and all taints. The crate is no part of the program.
+#![tactic(auto)]
+
+mod agree;
+#[cfg(test)]
+mod driver;
+#[cfg(test)]
+mod examples;
+#[cfg(test)]
+mod modules;
+mod rules;
+#[cfg(test)]
+mod tests;
+
+pub use agree::agrees;
+pub use rules::{has_rule, taints_by_rule};

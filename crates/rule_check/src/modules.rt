@@ -1,0 +1,132 @@
+// Modules with one cell.
+
+use cif_cells::{
+    CellList, Connection, Connections, Direction, Kind, Name, Param, ParamValue, Params, PortRow,
+    PortWidth, Raw, RawBit, RawBits, RawCell, RawNames, RawParam, RawPort, RawPorts, table,
+};
+use std::alloc::{AllocError, Global};
+
+/// A cell: its kind, and the numbers of its parameters in the order in which the table of kinds has them, as A_SIGNED,
+/// B_SIGNED, A_WIDTH, B_WIDTH, Y_WIDTH.
+#[derive(Drop)]
+pub struct Shape<'a> {
+    pub kind: Kind,
+    pub numbers: &'a [u8],
+}
+
+impl Shape<'_> {
+    /// The number of a parameter, or 0 where the cell gives none.
+    fn number(&self, param: Param) -> u32 {
+        for (given, number) in table::parameters(self.kind).iter().zip(self.numbers) {
+            if *given == param {
+                return u32::from(*number);
+            }
+        }
+        0
+    }
+
+    /// How many bits a port has.
+    fn width(&self, width: PortWidth) -> u32 {
+        match width {
+            PortWidth::One => 1,
+            PortWidth::Of(param) => self.number(param),
+            PortWidth::Sum(first, second) => {
+                self.number(first).saturating_add(self.number(second))
+            }
+            PortWidth::Product(first, second) => {
+                self.number(first).saturating_mul(self.number(second))
+            }
+            PortWidth::Blocks(count, power) => {
+                self.number(count).wrapping_shl(self.number(power))
+            }
+        }
+    }
+}
+
+/// The name of these bytes.
+fn name_of(alloc: Global, text: &str) -> Result<Name, AllocError> {
+    Ok(Name::of(Vec::from_slice(alloc, text.as_bytes())?))
+}
+
+/// The `count` net numbers from `first` on.
+fn nets(alloc: Global, first: u64, count: u32) -> Result<Vec<RawBit>, AllocError> {
+    let mut bits = Vec::new(alloc);
+    for index in 0..count {
+        bits.push(RawBit::Net(first.wrapping_add(u64::from(index))))?;
+    }
+    Ok(bits)
+}
+
+/// A module while it is made: its ports, which are named as those of its one cell, and what the cell connects to them.
+#[derive(Drop)]
+struct Parts {
+    ports: Vec<RawPort>,
+    connections: Vec<Connection>,
+    next_net: u64,
+}
+
+impl Parts {
+    /// Adds ports, each with net numbers of its own.
+    fn add(
+        &mut self,
+        alloc: Global,
+        shape: &Shape<'_>,
+        rows: &[PortRow],
+        direction: Direction,
+    ) -> Result<(), AllocError> {
+        for row in rows {
+            let width = shape.width(row.width);
+            let name = table::port_name(row.port);
+            self.ports.push(RawPort {
+                name: name_of(alloc, name)?,
+                direction,
+                bits: RawBits::of(nets(alloc, self.next_net, width)?),
+            })?;
+            let bits = nets(alloc, self.next_net, width)?;
+            self.connections
+                .push(Connection::of(name_of(alloc, name)?, bits))?;
+            self.next_net = self.next_net.wrapping_add(u64::from(width));
+        }
+        Ok(())
+    }
+}
+
+/// The parameters of a cell.
+fn parameters(alloc: Global, shape: &Shape<'_>) -> Result<Vec<RawParam>, AllocError> {
+    let mut given = Vec::new(alloc);
+    for (param, number) in table::parameters(shape.kind).iter().zip(shape.numbers) {
+        given.push(RawParam {
+            name: name_of(alloc, table::param_name(*param))?,
+            value: ParamValue::Number(i128::from(*number)),
+        })?;
+    }
+    Ok(given)
+}
+
+/// The module with one cell, which reads an input port with each operand and drives an output port with each output.
+///
+/// Ports and parameters stand in the order of the table of kinds.
+pub fn module_of(alloc: Global, shape: &Shape<'_>) -> Result<Raw, AllocError> {
+    let mut parts = Parts {
+        ports: Vec::new(alloc),
+        connections: Vec::new(alloc),
+        next_net: 2,
+    };
+    parts.add(alloc, shape, table::operands(shape.kind), Direction::Input)?;
+    parts.add(alloc, shape, table::outputs(shape.kind), Direction::Output)?;
+    let cell = RawCell {
+        name: name_of(alloc, "cell")?,
+        hide: false,
+        kind: name_of(alloc, table::type_name(shape.kind))?,
+        parameters: Params::of(parameters(alloc, shape)?),
+        attributes: Params::of(Vec::new(alloc)),
+        connections: Connections::of(parts.connections),
+    };
+    Ok(Raw {
+        module: name_of(alloc, "module")?,
+        attributes: Params::of(Vec::new(alloc)),
+        ports: RawPorts::of(parts.ports),
+        cells: CellList::of(vec![in alloc; cell]?),
+        names: RawNames::of(Vec::new(alloc)),
+    })
+}
