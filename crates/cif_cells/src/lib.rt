@@ -31,7 +31,7 @@ pub use cif_defs::{
     RawNames, RawParam, RawPort, RawPorts, Role, Src, Wire,
 };
 pub use fault::{BuildFault, Spot};
+pub use finding::Found;
 pub use meanings::meaning;
 pub use meanings::registers::{register_next, register_show};
-pub use finding::Found;
 pub use netlist::Netlist;

@@ -1,14 +1,14 @@
 //! The commands of the tool: words and files in, a text, a refusal or a fault out.
 #![tactic(auto)]
 
+#[cfg(test)]
+mod cell_tests;
 mod command;
 mod desk;
 mod evaluation;
 mod files;
 mod refusal;
 mod stop;
-#[cfg(test)]
-mod cell_tests;
 #[cfg(test)]
 mod tests;
 mod text;

@@ -8,3 +8,4 @@ pub mod Evaluated
 pub mod StepLaws
 pub mod StateLaws
 pub mod FrameLaws
+pub mod Flags

@@ -166,9 +166,9 @@ formulas_are : (c : Cell) (fs : List Formula) (vs ts : List Word) → AreTaintsO
 formulas_are c fs vs ts a hv ht =
     ext_get_or [] (formula_words fs vs ts) (taint_words c vs ts) (length-map fs (λ f. value_of f vs ts []) ∙ a.as_many ∙ sym (length-map-range_with_len (taint_word c vs ts) 0 (length (outputs_of c.kind))))
     (λ p h. let inside : p < length fs = (let q : length (formula_words fs vs ts) ≡ length fs = length-map fs (λ f. value_of f vs ts []) in omega arith) in
-      let one = a.each p inside in let many : length fs ≡ length (outputs_of c.kind) = a.as_many in
-      get_or-map (λ f. value_of f vs ts []) fs p (Const []) [] inside ∙ one.means vs ts hv ht
-      ∙ sym (get_or-map-range_with_len (taint_word c vs ts) 0 (length (outputs_of c.kind)) p p [] (omega arith) (omega arith)))
+    let one = a.each p inside in let many : length fs ≡ length (outputs_of c.kind) = a.as_many in
+    get_or-map (λ f. value_of f vs ts []) fs p (Const []) [] inside ∙ one.means vs ts hv ht
+    ∙ sym (get_or-map-range_with_len (taint_word c vs ts) 0 (length (outputs_of c.kind)) p p [] (omega arith) (omega arith)))
 
 pub words_are : (c : Cell) (terms : List Term) (n : ℕ) (vs ts ws : List Word) → AreTaintsOf c (map formula_of terms) → map length vs ≡ operand_widths c → map length ts ≡ operand_widths c → length terms ≤ n → ws ≡ values_of (take n terms) vs ts → ws ≡ taint_words c vs ts
 words_are c terms n vs ts ws a hv ht l e = e ∙ ap (λ (x : List Term). values_of x vs ts) (take_all n terms l) ∙ by_formulas terms vs ts ∙ formulas_are c (map formula_of terms) vs ts a hv ht
@@ -179,12 +179,15 @@ width_past : (c : Cell) (p : ℕ) → length (outputs_of c.kind) ≤ p → outpu
 width_past c p h = get_or_past (map (row_width c) (outputs_of c.kind)) p 0 (let e : length (map (row_width c) (outputs_of c.kind)) ≡ length (outputs_of c.kind) = length-map (outputs_of c.kind) (row_width c) in omega arith)
 
 pub gives : (c : Cell) (vs ts words taints : List Word) → words ≡ meaning c vs → taints ≡ taint_words c vs ts → GivesExactly c vs ts words taints
-gives c vs ts words taints e f = record { values = e; taints = λ p i h. elim (le_or_lt p (length (outputs_of c.kind))) [
-  | inl l ↦ ap (λ (ws : List Word). bit (operand ws p) i) f
-    ∙ ap (λ (w : Word). bit w i) (get_or-map-range_with_len (taint_word c vs ts) 0 (length (outputs_of c.kind)) p p [] l (omega arith))
-    ∙ bit-word (output_width c p) (λ k. output_taint c p k vs ts) i false h
-  | inr l ↦ absurd (let z : output_width c p ≡ 0 = width_past c p l in omega arith)
-] }
+gives c vs ts words taints e f = record {
+  values = e;
+  taints = λ p i h. elim (le_or_lt p (length (outputs_of c.kind))) [
+    | inl l ↦ ap (λ (ws : List Word). bit (operand ws p) i) f
+        ∙ ap (λ (w : Word). bit w i) (get_or-map-range_with_len (taint_word c vs ts) 0 (length (outputs_of c.kind)) p p [] l (omega arith))
+        ∙ bit-word (output_width c p) (λ k. output_taint c p k vs ts) i false h
+    | inr l ↦ absurd (let z : output_width c p ≡ 0 = width_past c p l in omega arith)
+  ];
+}
 
 -- ---- the words that a fitted cell reads
 

@@ -11,6 +11,13 @@ pub fn bit_of(word: &[bool], index: usize) -> bool
     word.get(index).copied().unwrap_or(false)
 }
 
+/// Bit `index` of a word that may be long, which is 0 past its end.
+pub fn long_bit(word: &[bool], index: u64) -> bool
+    ensures { result ≡ bit word.now index }
+{
+    index < word.len() as u64 && word[index as usize]
+}
+
 /// The first bits of a word, with 0 past its end.
 pub fn cut(alloc: Global, width: usize, source: &[bool]) -> Result<Vec<bool>, AllocError>
     ensures { IfOk result (λ w. w.items ≡ word width (λ i. bit source.now i)) }

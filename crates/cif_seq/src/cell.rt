@@ -68,8 +68,7 @@ fn taint_terms(alloc: Global, cell: &Cell) -> Result<Vec<Term>, NoMemory>
 /// A law without a body: each combinational kind has its terms in exactly one of the rule crates.
 pub fn covered_once()
     ensures { (k : KindValue) → role_of k ≡ Role.Combinational → crates_of k ≡ 1 }
-{
-}
+{}
 
 /// The values of terms, where `values` and `taints` are those of a cell's operands.
 fn term_words(

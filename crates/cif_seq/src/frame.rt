@@ -1,16 +1,16 @@
 // Frames: what a case shows in one cycle.
-ghost use Rattle.std.specs.Prelude.{◌≡◌, ◌+◌, ◌<◌, ◌≤◌, ℕ, length, map, get_or, IfOk};
+ghost use Rattle.std.specs.Prelude.{◌≡◌, ◌+◌, ◌<◌, ◌≤◌, ℕ, false, [], length, map, get_or, IfOk};
 ghost use Rattle.cif_defs.specs.Words.{bit};
 ghost use Rattle.cif_defs.specs.Accepted.{netlist_of};
 ghost use Rattle.cif_defs.specs.Run.{state, value};
-ghost use Rattle.cif_defs.specs.TaintRun.{taint, taint_state, state_value};
+ghost use Rattle.cif_defs.specs.TaintRun.{taint, taint_state, state_value, state_taint};
 ghost use Rattle.cif_seq.specs.Cases.{frame_of, net_of};
 
+use crate::bits::{bit_of, long_bit};
 use crate::case::Case;
 use crate::cell::operand_of;
 use crate::gather::Word;
 use crate::inputs::input_words;
-use crate::bits::bit_of;
 use crate::settle::{Start, settled};
 use crate::state::{StoredWords, next_words, start_words};
 use cif_bits::NoMemory;
@@ -123,5 +123,34 @@ impl Frame {
             value: bit_of(&self.values, net as usize),
             taint: bit_of(&self.taints, net as usize),
         }
+    }
+
+    /// The value and the taint of bit `index` of the word that a cell stores; of a memory, bit `word * WIDTH + bit`, which
+    /// is tainted too where the memory's flag is set.
+    pub fn state(&self, cell: u32, index: u64) -> Pair
+        ensures value { result.value ≡ state_value (net_of self.now.case) self.now.case.stimulus self.now.cycle cell index }
+        ensures taint { result.taint ≡ state_taint (net_of self.now.case) self.now.case.stimulus self.now.cycle cell index }
+    {
+        let _accepted = self.case.netlist().raw();
+        Pair {
+            value: long_bit(operand_of(&self.stored, cell as usize), index),
+            taint: long_bit(operand_of(&self.stored_taints, cell as usize), index),
+        }
+    }
+
+    /// The stored taint alone of bit `index` of the word that a cell stores.
+    pub fn stored(&self, cell: u32, index: u64) -> bool
+        ensures { result ≡ bit (get_or (taint_state (net_of self.now.case) self.now.case.stimulus self.now.cycle).stored cell []) index }
+    {
+        long_bit(operand_of(&self.stored_taints, cell as usize), index)
+    }
+
+    /// The sticky flag of a memory: whether a write at a tainted address may have come so far. No kind that is built so
+    /// far has one, so it is off.
+    pub fn flag(&self, _cell: u32) -> bool
+        ensures { result ≡ get_or (taint_state (net_of self.now.case) self.now.case.stimulus self.now.cycle).flags _cell false }
+    {
+        let _accepted = self.case.netlist().raw();
+        false
     }
 }

@@ -5,8 +5,8 @@ ghost use Rattle.cif_defs.specs.Accepted.{netlist_of};
 ghost use Rattle.cif_defs.specs.Stimulus.{input_at};
 ghost use Rattle.cif_seq.specs.Inputs.{HoldsInputs, input_width};
 
-use crate::cell::Stored;
 use crate::bits::cut;
+use crate::cell::Stored;
 use crate::state::StoredWords;
 use cif_cells::{Listed, Netlist};
 use cif_stim::Stimulus;

@@ -11,9 +11,9 @@ ghost use Rattle.cif_defs.specs.TaintRun.{TaintState, operand_taints, driver_tai
 ghost use Rattle.cif_seq.specs.Writes.{placed, cleared};
 ghost use Rattle.cif_seq.specs.Settled.{input_bits, ValuesFollow, TaintsFollow};
 
+use crate::bits::bit_of;
 use crate::cell::{cell_words, operand_of};
 use crate::gather::{Word, taint_words, value_words};
-use crate::bits::bit_of;
 use crate::write::write_words;
 use cif_bits::NoMemory;
 use cif_cells::{Driver, Netlist, Role, table};

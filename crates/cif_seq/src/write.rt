@@ -2,8 +2,8 @@
 ghost use Rattle.std.specs.Prelude.{◌≡◌};
 ghost use Rattle.cif_seq.specs.Writes.{put_word, put_words};
 
-use crate::cell::port_bits;
 use crate::bits::bit_of;
+use crate::cell::port_bits;
 use cif_bits::Bits;
 use cif_cells::{NetBit, Targets};
 
