@@ -28,15 +28,15 @@ pub exact_taint : (c : Cell) (p : ℕ) (f : ℕ → List Word → Bool) (vs ts :
     → ((i : ℕ) (us : List Word) → output_bit c p i us ≡ f i us) → IsExact (output_width c p) f vs ts w → w ≡ taint_word c vs ts p
 exact_taint c p f vs ts w fine same e = same_words w (taint_word c vs ts p) (e.as_long ∙ sym (length-word (output_width c p) _))
     (λ i h. let l : i < output_width c p = (let k : length w ≡ output_width c p = e.as_long in omega arith) in
-      tested i l ∙ by_test i ∙ sym (bit-word (output_width c p) (λ k. output_taint c p k vs ts) i false l))
+    tested i l ∙ by_test i ∙ sym (bit-word (output_width c p) (λ k. output_taint c p k vs ts) i false l))
   where
-  tested : (i : ℕ) → i < output_width c p → bit w i ≡ can_differ (output_bit c p i) vs ts
-  tested i l = same_tests (bit w i) (can_differ (output_bit c p i) vs ts)
-    (λ q. test_from-CanDiffer (output_bit c p i) vs ts (moved (f i) (output_bit c p i) vs ts (same i) (e.only i l q)))
-    (λ q. e.all i l (moved (output_bit c p i) (f i) vs ts (λ us. sym (same i us)) (CanDiffer-from_test (output_bit c p i) vs ts q)))
+    tested : (i : ℕ) → i < output_width c p → bit w i ≡ can_differ (output_bit c p i) vs ts
+    tested i l = same_tests (bit w i) (can_differ (output_bit c p i) vs ts)
+        (λ q. test_from-CanDiffer (output_bit c p i) vs ts (moved (f i) (output_bit c p i) vs ts (same i) (e.only i l q)))
+        (λ q. e.all i l (moved (output_bit c p i) (f i) vs ts (λ us. sym (same i us)) (CanDiffer-from_test (output_bit c p i) vs ts q)))
 
-  by_test : (i : ℕ) → can_differ (output_bit c p i) vs ts ≡ output_taint c p i vs ts
-  by_test i = rw fine refl
+    by_test : (i : ℕ) → can_differ (output_bit c p i) vs ts ≡ output_taint c p i vs ts
+    by_test i = rw fine refl
 
 -- ---- the formulas of a cell with one output, and of one with two
 

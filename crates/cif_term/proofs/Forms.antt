@@ -78,9 +78,9 @@ two_fits op n false e h = ap (λ x. if x && not (nat_le n 128) then None else So
 pub formed_two : {f g : Formula} {ws named : List ℕ} {n j k : ℕ} (op : Op2) → IsFormed f ws named n j → IsFormed g ws named n k → (is_on_numbers op ≡ true → n ≤ 128) → IsFormed (Two op f g) ws named (two_width op n) (j + k + two_cost op n)
 formed_two {f = f} {g = g} {ws = ws} {named = named} {n = n} op x y small = record {
   width = ap (λ u. two_width_option op (same_width u (width_of g ws named))) x.width ∙ ap (λ u. two_width_option op (same_width (Some n) u)) y.width
-    ∙ ap (two_width_option op) (same_is n) ∙ two_fits op n (is_on_numbers op) refl small;
+      ∙ ap (two_width_option op) (same_is n) ∙ two_fits op n (is_on_numbers op) refl small;
   cost = (let c = x.cost in let d = y.cost in
-    let p : two_cost op (max (plain_width f ws named) (plain_width g ws named)) ≡ two_cost op n =
+      let p : two_cost op (max (plain_width f ws named) (plain_width g ws named)) ≡ two_cost op n =
       ap (λ u. two_cost op (max u (plain_width g ws named))) (plain_is x) ∙ ap (λ u. two_cost op (max n u)) (plain_is y) ∙ ap (two_cost op) (max_same n) in omega arith);
 }
 
@@ -90,9 +90,9 @@ widest n h = omega arith
 pub formed_choose : {s f g : Formula} {ws named : List ℕ} {n i j k : ℕ} → IsFormed s ws named 1 i → IsFormed f ws named n j → IsFormed g ws named n k → 1 ≤ n → IsFormed (Choose s f g) ws named n (i + j + k + pieces n)
 formed_choose {s = s} {f = f} {g = g} {ws = ws} {named = named} {n = n} z x y some = record {
   width = ap (λ u. choose_width u (same_width (width_of f ws named) (width_of g ws named))) z.width
-    ∙ ap (λ u. same_width u (width_of g ws named)) x.width ∙ ap (same_width (Some n)) y.width ∙ same_is n;
+      ∙ ap (λ u. same_width u (width_of g ws named)) x.width ∙ ap (same_width (Some n)) y.width ∙ same_is n;
   cost = (let b = z.cost in let c = x.cost in let d = y.cost in
-    let p : pieces (max (plain_width s ws named) (max (plain_width f ws named) (plain_width g ws named))) ≡ pieces n =
+      let p : pieces (max (plain_width s ws named) (max (plain_width f ws named) (plain_width g ws named))) ≡ pieces n =
       ap (λ u. pieces (max u (max (plain_width f ws named) (plain_width g ws named)))) (plain_is z) ∙ ap (λ u. pieces (max 1 (max u (plain_width g ws named)))) (plain_is x)
       ∙ ap (λ u. pieces (max 1 (max n u))) (plain_is y) ∙ ap pieces (widest n some) in omega arith);
 }

@@ -56,8 +56,8 @@ value-extended_by n m false false f vs ts named e l h =
     let more : m < n = grind (arith, nat_tests) in
     let w : Word = value_of f vs ts named in
     fill_by_all (λ i. extended_bit false i w) (w ++ zeros (n - m)) n false
-      (omega (arith, length-append w (zeros (n - m)), length-word (n - m) (λ k. false), l))
-      (λ i k. filled_bit w n m i l k (le_or_lt i m))
+    (omega (arith, length-append w (zeros (n - m)), length-word (n - m) (λ k. false), l))
+    (λ i k. filled_bit w n m i l k (le_or_lt i m))
 
 -- an extension stands for the extended word
 pub value-extended : (n m : ℕ) (signed : Bool) (f : Formula) (vs ts named : List Word) → length (value_of f vs ts named) ≡ m → 1 ≤ m

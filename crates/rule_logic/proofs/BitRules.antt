@@ -78,7 +78,6 @@ either_rule x tx y ty = tx || ty
 abbrev pub xnor_bits : Bool → Bool → Bool
 xnor_bits x y = not (xor x y)
 
-
 pub and_table : (x tx y ty : Bool) → bits_can_differ (two_of (λ x y. x && y)) (x ∷ y ∷ []) (tx ∷ ty ∷ []) ≡ and_rule x tx y ty
 and_table true true true true = refl
 and_table true true true false = refl
@@ -271,9 +270,9 @@ pub growing_exact : (n : ℕ) (g : ℕ → List Word → Bool) (vs ts : List Wor
 growing_exact n g vs ts grows s = record {
   as_long = length-word n (λ i. spreads (g i) vs ts);
   only = λ i h q. transfer (λ us. bit (word n (λ k. g k us)) i) (g i) vs ts (λ us. bit-word n (λ k. g k us) i false h)
-    (spread_differs (g i) vs ts s (sym (bit-word n (λ k. spreads (g k) vs ts) i false h) ∙ q));
+      (spread_differs (g i) vs ts s (sym (bit-word n (λ k. spreads (g k) vs ts) i false h) ∙ q));
   all = λ i h d. bit-word n (λ k. spreads (g k) vs ts) i false h
-    ∙ differs_spread (g i) vs ts (grows i) s (transfer (g i) (λ us. bit (word n (λ k. g k us)) i) vs ts (λ us. sym (bit-word n (λ k. g k us) i false h)) d);
+      ∙ differs_spread (g i) vs ts (grows i) s (transfer (g i) (λ us. bit (word n (λ k. g k us)) i) vs ts (λ us. sym (bit-word n (λ k. g k us) i false h)) d);
 }
 
 pub carry_exact : (n : ℕ) (vs ts : List Word) → SameShape vs ts → IsExact n (λ i us. bit (word n (λ k. majority_at k us)) i) vs ts (word n (λ i. spreads (majority_at i) vs ts))

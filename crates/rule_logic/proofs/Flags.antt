@@ -22,12 +22,22 @@ flag_above n i b h =
     bit-word n (λ k. k == 0 && b) (suc i) false h ∙ ap (λ x. x && b) later
 
 shown : (n : ℕ) (f : List Word → Bool) (vs ts : List Word) → 0 < n → CanDiffer f vs ts → CanDiffer (λ us. bit (flag_word n (f us)) 0) vs ts
-shown n f vs ts h d = record { first = d.first; second = d.second; first_completes = d.first_completes; second_completes = d.second_completes;
-  differ = λ q. d.differ (sym (flag_first n (f d.first) h) ∙ q ∙ flag_first n (f d.second) h) }
+shown n f vs ts h d = record {
+  first = d.first;
+  second = d.second;
+  first_completes = d.first_completes;
+  second_completes = d.second_completes;
+  differ = λ q. d.differ (sym (flag_first n (f d.first) h) ∙ q ∙ flag_first n (f d.second) h);
+}
 
 seen : (n : ℕ) (f : List Word → Bool) (vs ts : List Word) → 0 < n → CanDiffer (λ us. bit (flag_word n (f us)) 0) vs ts → CanDiffer f vs ts
-seen n f vs ts h d = record { first = d.first; second = d.second; first_completes = d.first_completes; second_completes = d.second_completes;
-  differ = λ q. d.differ (flag_first n (f d.first) h ∙ q ∙ sym (flag_first n (f d.second) h)) }
+seen n f vs ts h d = record {
+  first = d.first;
+  second = d.second;
+  first_completes = d.first_completes;
+  second_completes = d.second_completes;
+  differ = λ q. d.differ (flag_first n (f d.first) h ∙ q ∙ sym (flag_first n (f d.second) h));
+}
 
 only_at : (n : ℕ) (f : List Word → Bool) (vs ts : List Word) (b : Bool) → (b ≡ true → CanDiffer f vs ts) → (i : ℕ) → i < n → bit (flag_word n b) i ≡ true → CanDiffer (λ us. bit (flag_word n (f us)) i) vs ts
 only_at n f vs ts b k zero h q = shown n f vs ts h (k (sym (flag_first n b h) ∙ q))
@@ -59,7 +69,7 @@ differs_complement f vs ts d = record { first = d.first; second = d.second; firs
 
 pub complement_exact : (n : ℕ) (f : List Word → Bool) (vs ts : List Word) → Grows f → SameShape vs ts → IsExact n (λ i us. bit (flag_word n (not (f us))) i) vs ts (flag_word n (spreads f vs ts))
 complement_exact n f vs ts g s = flag_exact n (λ us. not (f us)) vs ts (spreads f vs ts)
-  (λ d. differs_spread f vs ts g s (differs_complement f vs ts d)) (λ h. complement_differs f vs ts (spread_differs f vs ts s h))
+    (λ d. differs_spread f vs ts g s (differs_complement f vs ts d)) (λ h. complement_differs f vs ts (spread_differs f vs ts s h))
 
 -- ---- what grows
 
@@ -137,8 +147,13 @@ not_self false e = absurd (cc)
 parity_differs : (v t : Word) → length t ≡ length v → has_one t ≡ true → CanDiffer (λ us. parity (operand us 0)) (v ∷ []) (t ∷ [])
 parity_differs v t e h =
     let other = turn v t e h in
-    record { first = v ∷ []; second = other.0 ∷ []; first_completes = self_complete (v ∷ []) (t ∷ []); second_completes = cons_complete v [] t [] other.0 [] other.1 nil_complete;
-      differ = λ q. not_self (parity v) (q ∙ other.2) }
+    record {
+      first = v ∷ [];
+      second = other.0 ∷ [];
+      first_completes = self_complete (v ∷ []) (t ∷ []);
+      second_completes = cons_complete v [] t [] other.0 [] other.1 nil_complete;
+      differ = λ q. not_self (parity v) (q ∙ other.2);
+    }
 
 differs_parity : (v t : Word) → CanDiffer (λ us. parity (operand us 0)) (v ∷ []) (t ∷ []) → has_one t ≡ true
 differs_parity v t d = true_by (has_one t) (λ h. d.differ (ap parity (fixed_word v t (operand d.first 0) h (d.first_completes.each 0) ∙ sym (fixed_word v t (operand d.second 0) h (d.second_completes.each 0)))))
@@ -148,4 +163,4 @@ parity_exact n v t e = flag_exact n (λ us. parity (operand us 0)) (v ∷ []) (t
 
 pub not_parity_exact : (n : ℕ) (v t : Word) → length t ≡ length v → IsExact n (λ i us. bit (flag_word n (not (parity (operand us 0)))) i) (v ∷ []) (t ∷ []) (flag_word n (has_one t))
 not_parity_exact n v t e = flag_exact n (λ us. not (parity (operand us 0))) (v ∷ []) (t ∷ []) (has_one t)
-  (λ d. differs_parity v t (differs_complement (λ us. parity (operand us 0)) (v ∷ []) (t ∷ []) d)) (λ h. complement_differs (λ us. parity (operand us 0)) (v ∷ []) (t ∷ []) (parity_differs v t e h))
+    (λ d. differs_parity v t (differs_complement (λ us. parity (operand us 0)) (v ∷ []) (t ∷ []) d)) (λ h. complement_differs (λ us. parity (operand us 0)) (v ∷ []) (t ∷ []) (parity_differs v t e h))

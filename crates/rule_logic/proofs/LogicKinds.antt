@@ -25,7 +25,6 @@ use Rattle.rule_logic.proofs.LogicValues.{value-both, value-either, value-max, v
 use Rattle.rule_logic.proofs.Shapes.{IsPlain}
 use Rattle.rule_logic.proofs.LogicTaints.{AreExtended, IsBinary, IsRule, IsUnary, binary, flag_bits, formed_a, formed_b, formed_ta, formed_tb, not_plain, one_bits, one_flag, one_kind, or_plain, own_taint, tx_at, ty_at, two_bits, two_flag, two_kind, two_plain, unary, x_at, y_at}
 
-
 -- ---- the parts of formulas, formed
 
 bit_width : IsPlain 1
@@ -56,7 +55,6 @@ formed_spread : {f g : Formula} {ws : List ℕ} {j k : ℕ} (i : ℕ) → IsForm
 formed_spread {k = k} i a b l = two_plain i bit_width a (not_plain (k + 1) bit_width b (omega arith)) (omega arith)
 
 -- ---- $not and $pos
-
 
 not_row : (c : Cell) → c.kind ≡ NotKind → (i : ℕ) (us : List Word) → output_bit c 0 i us ≡ one_bits not c i us
 unfolding words_by
@@ -123,19 +121,18 @@ and_value c v w x z e =
     value-or (y_width c) (λ i. at_c c x i && at_c c z i) (λ i. (at_c c x i && at_c c w i) || (at_c c z i && at_c c v i)) (Two And (tx_at c) (ty_at c)) (Two Or (Two And (tx_at c) (y_at c)) (Two And (ty_at c) (x_at c))) (v ∷ w ∷ []) (x ∷ z ∷ []) []
     (value-and (y_width c) (at_c c x) (at_c c z) (tx_at c) (ty_at c) (v ∷ w ∷ []) (x ∷ z ∷ []) [] e.vtx e.vty)
     (value-or (y_width c) (λ i. at_c c x i && at_c c w i) (λ i. at_c c z i && at_c c v i) (Two And (tx_at c) (y_at c)) (Two And (ty_at c) (x_at c)) (v ∷ w ∷ []) (x ∷ z ∷ []) []
-      (value-and (y_width c) (at_c c x) (at_c c w) (tx_at c) (y_at c) (v ∷ w ∷ []) (x ∷ z ∷ []) [] e.vtx e.vy) (value-and (y_width c) (at_c c z) (at_c c v) (ty_at c) (x_at c) (v ∷ w ∷ []) (x ∷ z ∷ []) [] e.vty e.vx))
+    (value-and (y_width c) (at_c c x) (at_c c w) (tx_at c) (y_at c) (v ∷ w ∷ []) (x ∷ z ∷ []) [] e.vtx e.vy) (value-and (y_width c) (at_c c z) (at_c c v) (ty_at c) (x_at c) (v ∷ w ∷ []) (x ∷ z ∷ []) [] e.vty e.vx))
 
 or_value : (c : Cell) (v w x z : Word) → AreExtended c v w x z → value_of (or_formula (x_at c) (tx_at c) (y_at c) (ty_at c)) (v ∷ w ∷ []) (x ∷ z ∷ []) [] ≡ word (y_width c) (λ i. or_rule (at_c c v i) (at_c c x i) (at_c c w i) (at_c c z i))
 or_value c v w x z e =
     value-or (y_width c) (λ i. at_c c x i && at_c c z i) (λ i. (at_c c x i && not (at_c c w i)) || (at_c c z i && not (at_c c v i))) (Two And (tx_at c) (ty_at c)) (Two Or (Two And (tx_at c) (One Not (y_at c))) (Two And (ty_at c) (One Not (x_at c)))) (v ∷ w ∷ []) (x ∷ z ∷ []) []
     (value-and (y_width c) (at_c c x) (at_c c z) (tx_at c) (ty_at c) (v ∷ w ∷ []) (x ∷ z ∷ []) [] e.vtx e.vty)
     (value-or (y_width c) (λ i. at_c c x i && not (at_c c w i)) (λ i. at_c c z i && not (at_c c v i)) (Two And (tx_at c) (One Not (y_at c))) (Two And (ty_at c) (One Not (x_at c))) (v ∷ w ∷ []) (x ∷ z ∷ []) []
-      (value-and (y_width c) (at_c c x) (λ i. not (at_c c w i)) (tx_at c) (One Not (y_at c)) (v ∷ w ∷ []) (x ∷ z ∷ []) [] e.vtx (value-not (y_width c) (at_c c w) (y_at c) (v ∷ w ∷ []) (x ∷ z ∷ []) [] e.vy))
-      (value-and (y_width c) (at_c c z) (λ i. not (at_c c v i)) (ty_at c) (One Not (x_at c)) (v ∷ w ∷ []) (x ∷ z ∷ []) [] e.vty (value-not (y_width c) (at_c c v) (x_at c) (v ∷ w ∷ []) (x ∷ z ∷ []) [] e.vx)))
+    (value-and (y_width c) (at_c c x) (λ i. not (at_c c w i)) (tx_at c) (One Not (y_at c)) (v ∷ w ∷ []) (x ∷ z ∷ []) [] e.vtx (value-not (y_width c) (at_c c w) (y_at c) (v ∷ w ∷ []) (x ∷ z ∷ []) [] e.vy))
+    (value-and (y_width c) (at_c c z) (λ i. not (at_c c v i)) (ty_at c) (One Not (x_at c)) (v ∷ w ∷ []) (x ∷ z ∷ []) [] e.vty (value-not (y_width c) (at_c c v) (x_at c) (v ∷ w ∷ []) (x ∷ z ∷ []) [] e.vx)))
 
 either_value : (c : Cell) (v w x z : Word) → AreExtended c v w x z → value_of (either_formula (tx_at c) (ty_at c)) (v ∷ w ∷ []) (x ∷ z ∷ []) [] ≡ word (y_width c) (λ i. either_rule (at_c c v i) (at_c c x i) (at_c c w i) (at_c c z i))
 either_value c v w x z e = value-or (y_width c) (at_c c x) (at_c c z) (tx_at c) (ty_at c) (v ∷ w ∷ []) (x ∷ z ∷ []) [] e.vtx e.vty
-
 
 and_row : (c : Cell) → c.kind ≡ AndKind → (i : ℕ) (us : List Word) → output_bit c 0 i us ≡ two_bits (λ x y. x && y) c i us
 unfolding words_by
@@ -240,7 +237,6 @@ some_of_value : (v w x z : Word) → length x ≡ length v → length z ≡ leng
 some_of_value v w x z e h = value-spread (Two Or (One ReduceOr (max_formula 0)) (One ReduceOr (max_formula 1))) (Two Or (One ReduceOr (min_formula 0)) (One ReduceOr (min_formula 1))) (v ∷ w ∷ []) (x ∷ z ∷ []) _ _
     (value-either (One ReduceOr (max_formula 0)) (One ReduceOr (max_formula 1)) (v ∷ w ∷ []) (x ∷ z ∷ []) _ _ (value-some (max_formula 0) (v ∷ w ∷ []) (x ∷ z ∷ []) (max_word v x) (value-max 0 (v ∷ w ∷ []) (x ∷ z ∷ []))) (value-some (max_formula 1) (v ∷ w ∷ []) (x ∷ z ∷ []) (max_word w z) (value-max 1 (v ∷ w ∷ []) (x ∷ z ∷ []))))
     (value-either (One ReduceOr (min_formula 0)) (One ReduceOr (min_formula 1)) (v ∷ w ∷ []) (x ∷ z ∷ []) _ _ (value-some (min_formula 0) (v ∷ w ∷ []) (x ∷ z ∷ []) (min_word v x) (value-min 0 (v ∷ w ∷ []) (x ∷ z ∷ []) e)) (value-some (min_formula 1) (v ∷ w ∷ []) (x ∷ z ∷ []) (min_word w z) (value-min 1 (v ∷ w ∷ []) (x ∷ z ∷ []) h)))
-
 
 reduce_and_row : (c : Cell) → c.kind ≡ ReduceAndKind → (i : ℕ) (us : List Word) → output_bit c 0 i us ≡ flag_bits (λ us. is_all_ones (operand us 0)) c i us
 unfolding words_by

@@ -61,8 +61,14 @@ unfolding width_limit weight_by
 is_concat c k f =
     let r : HasRows c (a_row ∷ b_row ∷ []) (sum_row ∷ []) = concat_rows c k f in
     let i = r.within in let o = r.outputs_within in
-    record { widths = r.widths; a = plain c Concat a_row k refl i.0; b = plain c Concat b_row k refl (let j = i.1 in j.0); y = plain c Concat sum_row k refl o.0;
-      output = ap (λ rows. get_or (map (row_width c) rows) 0 0) r.output_rows; weighs = ap (λ x. weight_by x c) k }
+    record {
+      widths = r.widths;
+      a = plain c Concat a_row k refl i.0;
+      b = plain c Concat b_row k refl (let j = i.1 in j.0);
+      y = plain c Concat sum_row k refl o.0;
+      output = ap (λ rows. get_or (map (row_width c) rows) 0 0) r.output_rows;
+      weighs = ap (λ x. weight_by x c) k;
+    }
 
 -- the operand and the place that bit i shows
 abbrev port_at : ℕ → ℕ → ℕ
@@ -100,10 +106,10 @@ concat_is c k f =
     (let both : IsFormed (Join (Taint 0) (Taint 1)) (m ∷ n ∷ []) [] (m + n) (0 + 0) = formed_join (leaf_taint (m ∷ n ∷ []) 0 m refl a) (leaf_taint (m ∷ n ∷ []) 1 n refl b) (omega arith) (omega arith) in record { width = both.width; cost = (let z = both.cost in omega arith) })
     (let w = u.weighs in omega arith) (ap is_coarse k) (concat_row c k)
     (λ vs ts p q. two_words (λ us. IsExact (m + n) (λ i us. bit (word (m + n) (λ j. place_bit (port_at m j) (place_at m j) us)) i) us ts (value_of (Join (Taint 0) (Taint 1)) us ts [])) m n
-      (λ v v' l l'. two_words (λ us. IsExact (m + n) (λ i us. bit (word (m + n) (λ j. place_bit (port_at m j) (place_at m j) us)) i) (v ∷ v' ∷ []) us (value_of (Join (Taint 0) (Taint 1)) (v ∷ v' ∷ []) us [])) m n
-        (λ x x' e e'. subst (λ z. IsExact (m + n) (λ i us. bit (word (m + n) (λ j. place_bit (port_at m j) (place_at m j) us)) i) (v ∷ v' ∷ []) (x ∷ x' ∷ []) z)
-          (sym (joined_value m n x x' e e' ∙ joined_places m n (x ∷ x' ∷ [])))
-          (places_exact (m + n) (port_at m) (place_at m) (v ∷ v' ∷ []) (x ∷ x' ∷ []) (e ∙ sym l, (e' ∙ sym l', tt)) (two_long v v' x x' (e ∙ sym l) (e' ∙ sym l')))) ts q) vs p)
+    (λ v v' l l'. two_words (λ us. IsExact (m + n) (λ i us. bit (word (m + n) (λ j. place_bit (port_at m j) (place_at m j) us)) i) (v ∷ v' ∷ []) us (value_of (Join (Taint 0) (Taint 1)) (v ∷ v' ∷ []) us [])) m n
+    (λ x x' e e'. subst (λ z. IsExact (m + n) (λ i us. bit (word (m + n) (λ j. place_bit (port_at m j) (place_at m j) us)) i) (v ∷ v' ∷ []) (x ∷ x' ∷ []) z)
+    (sym (joined_value m n x x' e e' ∙ joined_places m n (x ∷ x' ∷ [])))
+    (places_exact (m + n) (port_at m) (place_at m) (v ∷ v' ∷ []) (x ∷ x' ∷ []) (e ∙ sym l, (e' ∙ sym l', tt)) (two_long v v' x x' (e ∙ sym l) (e' ∙ sym l')))) ts q) vs p)
 
 -- ---- $slice
 
@@ -159,9 +165,9 @@ slice_is c k f =
     (formed_pick (range_with_len (number_of c Offset) (y_width c)) (y_width c) (leaf_taint (m ∷ []) 0 m refl a) (range_below (number_of c Offset) (y_width c) m u.inside) (length-range_with_len (number_of c Offset) (y_width c)) y.some (omega arith))
     (let w = u.weighs in omega arith) (ap is_coarse k) (slice_row c k)
     (λ vs ts p q. one_word (λ us. IsExact (y_width c) (slice_bits c) us ts (value_of (slice_formula c) us ts [])) m
-      (λ v l. one_word (λ us. IsExact (y_width c) (slice_bits c) (v ∷ []) us (value_of (slice_formula c) (v ∷ []) us [])) m
-        (λ x e. subst (λ z. IsExact (y_width c) (slice_bits c) (v ∷ []) (x ∷ []) z) (sym (picked-range (number_of c Offset) (y_width c) x))
-          (places_exact (y_width c) (λ j. 0) (λ j. number_of c Offset + j) (v ∷ []) (x ∷ []) (e ∙ sym l, tt) (one_long v x (e ∙ sym l)))) ts q) vs p)
+    (λ v l. one_word (λ us. IsExact (y_width c) (slice_bits c) (v ∷ []) us (value_of (slice_formula c) (v ∷ []) us [])) m
+    (λ x e. subst (λ z. IsExact (y_width c) (slice_bits c) (v ∷ []) (x ∷ []) z) (sym (picked-range (number_of c Offset) (y_width c) x))
+    (places_exact (y_width c) (λ j. 0) (λ j. number_of c Offset + j) (v ∷ []) (x ∷ []) (e ∙ sym l, tt) (one_long v x (e ∙ sym l)))) ts q) vs p)
 
 -- ---- $fa
 
@@ -224,8 +230,8 @@ value-majorities n f g h vs ts us a b c x y z =
     value-majority n (bit (operand us 0)) (bit (operand us 1)) (bit (operand us 2)) f g h vs ts (x ∙ own_bits n (operand us 0) a) (y ∙ own_bits n (operand us 1) b) (z ∙ own_bits n (operand us 2) c)
     ∙ word-same n _ _ (λ i l. majority_again (bit (operand us 0) i) (bit (operand us 1) i) (bit (operand us 2) i))
   where
-  own_bits : (n : ℕ) (w : Word) → length w ≡ n → w ≡ word n (bit w)
-  own_bits n w e = fill_by_all (bit w) w n false e (λ i l. refl)
+    own_bits : (n : ℕ) (w : Word) → length w ≡ n → w ≡ word n (bit w)
+    own_bits n w e = fill_by_all (bit w) w n false e (λ i l. refl)
 
 long_max : (v t : Word) (n : ℕ) → length v ≡ n → length (max_word v t) ≡ n
 long_max v t n e = length-word (length v) (λ i. bit v i || bit t i) ∙ e
@@ -241,13 +247,13 @@ carry_value : (n : ℕ) (v w x t u z : Word) → length v ≡ n → length w ≡
 carry_value n v w x t u z a b c d e f =
     let vs = vs_of v w x in let ts = vs_of t u z in
     let high : value_of (majority_formula (max_formula 0) (max_formula 1) (max_formula 2)) (vs_of v w x) (vs_of t u z) [] ≡ majority_bits n (maxes (vs_of v w x) (vs_of t u z)) =
-      value-majorities n (max_formula 0) (max_formula 1) (max_formula 2) (vs_of v w x) (vs_of t u z) (maxes (vs_of v w x) (vs_of t u z)) (long_max v t n a) (long_max w u n b) (long_max x z n c)
-      (value-max 0 (vs_of v w x) (vs_of t u z)) (value-max 1 (vs_of v w x) (vs_of t u z)) (value-max 2 (vs_of v w x) (vs_of t u z)) in
+    value-majorities n (max_formula 0) (max_formula 1) (max_formula 2) (vs_of v w x) (vs_of t u z) (maxes (vs_of v w x) (vs_of t u z)) (long_max v t n a) (long_max w u n b) (long_max x z n c)
+    (value-max 0 (vs_of v w x) (vs_of t u z)) (value-max 1 (vs_of v w x) (vs_of t u z)) (value-max 2 (vs_of v w x) (vs_of t u z)) in
     let low : value_of (majority_formula (min_formula 0) (min_formula 1) (min_formula 2)) (vs_of v w x) (vs_of t u z) [] ≡ majority_bits n (mins (vs_of v w x) (vs_of t u z)) =
-      value-majorities n (min_formula 0) (min_formula 1) (min_formula 2) (vs_of v w x) (vs_of t u z) (mins (vs_of v w x) (vs_of t u z)) (long_min v t n a) (long_min w u n b) (long_min x z n c)
-      (value-min 0 (vs_of v w x) (vs_of t u z) (d ∙ sym a)) (value-min 1 (vs_of v w x) (vs_of t u z) (e ∙ sym b)) (value-min 2 (vs_of v w x) (vs_of t u z) (f ∙ sym c)) in
+    value-majorities n (min_formula 0) (min_formula 1) (min_formula 2) (vs_of v w x) (vs_of t u z) (mins (vs_of v w x) (vs_of t u z)) (long_min v t n a) (long_min w u n b) (long_min x z n c)
+    (value-min 0 (vs_of v w x) (vs_of t u z) (d ∙ sym a)) (value-min 1 (vs_of v w x) (vs_of t u z) (e ∙ sym b)) (value-min 2 (vs_of v w x) (vs_of t u z) (f ∙ sym c)) in
     value-and n _ _ (majority_formula (max_formula 0) (max_formula 1) (max_formula 2)) (One Not (majority_formula (min_formula 0) (min_formula 1) (min_formula 2))) (vs_of v w x) (vs_of t u z) [] high
-      (value-not n _ (majority_formula (min_formula 0) (min_formula 1) (min_formula 2)) (vs_of v w x) (vs_of t u z) [] low)
+    (value-not n _ (majority_formula (min_formula 0) (min_formula 1) (min_formula 2)) (vs_of v w x) (vs_of t u z) [] low)
 
 sum_value : (n : ℕ) (v w x t u z : Word) → length t ≡ n → length u ≡ n → length z ≡ n → value_of fa_sum_formula (vs_of v w x) (vs_of t u z) [] ≡ word n (λ i. bit t i || (bit u i || bit z i))
 sum_value n v w x t u z d e f =
@@ -271,16 +277,16 @@ sum_row_is c k i us = ap (λ x. bit (operand (words_by x c us) 1) i) k
 carry_is : (c : Cell) → c.kind ≡ Fa → IsAdder c → IsTaintOf c 0 fa_carry_formula
 carry_is c k u = is_taint c 0 fa_carry_formula (width c) 25 (three_widths (width c)) (carry_bits c) u.widths u.x (formed_carry (width c) u.n) (ap is_coarse k) (carry_row c k)
     (λ vs ts p q. three_words (λ us. IsExact (width c) (carry_bits c) us ts (value_of fa_carry_formula us ts [])) (width c) (width c) (width c)
-      (λ v w x a b e. three_words (λ us. IsExact (width c) (carry_bits c) (vs_of v w x) us (value_of fa_carry_formula (vs_of v w x) us [])) (width c) (width c) (width c)
-        (λ t y z d f g. subst (λ m. IsExact (width c) (carry_bits c) (vs_of v w x) (vs_of t y z) m) (sym (carry_value (width c) v w x t y z a b e d f g))
-          (carry_exact (width c) (vs_of v w x) (vs_of t y z) (d ∙ sym a, (f ∙ sym b, (g ∙ sym e, tt))))) ts q) vs p)
+    (λ v w x a b e. three_words (λ us. IsExact (width c) (carry_bits c) (vs_of v w x) us (value_of fa_carry_formula (vs_of v w x) us [])) (width c) (width c) (width c)
+    (λ t y z d f g. subst (λ m. IsExact (width c) (carry_bits c) (vs_of v w x) (vs_of t y z) m) (sym (carry_value (width c) v w x t y z a b e d f g))
+    (carry_exact (width c) (vs_of v w x) (vs_of t y z) (d ∙ sym a, (f ∙ sym b, (g ∙ sym e, tt))))) ts q) vs p)
 
 sum_is : (c : Cell) → c.kind ≡ Fa → IsAdder c → IsTaintOf c 1 fa_sum_formula
 sum_is c k u = is_taint c 1 fa_sum_formula (width c) 2 (three_widths (width c)) (sum_bits c) u.widths u.y (formed_sum (width c) u.n) (ap is_coarse k) (sum_row_is c k)
     (λ vs ts p q. three_words (λ us. IsExact (width c) (sum_bits c) us ts (value_of fa_sum_formula us ts [])) (width c) (width c) (width c)
-      (λ v w x a b e. three_words (λ us. IsExact (width c) (sum_bits c) (vs_of v w x) us (value_of fa_sum_formula (vs_of v w x) us [])) (width c) (width c) (width c)
-        (λ t y z d f g. subst (λ m. IsExact (width c) (sum_bits c) (vs_of v w x) (vs_of t y z) m) (sym (sum_value (width c) v w x t y z d f g))
-          (sum_exact (width c) v w x t y z (d ∙ sym a) (f ∙ sym b) (g ∙ sym e))) ts q) vs p)
+    (λ v w x a b e. three_words (λ us. IsExact (width c) (sum_bits c) (vs_of v w x) us (value_of fa_sum_formula (vs_of v w x) us [])) (width c) (width c) (width c)
+    (λ t y z d f g. subst (λ m. IsExact (width c) (sum_bits c) (vs_of v w x) (vs_of t y z) m) (sym (sum_value (width c) v w x t y z d f g))
+    (sum_exact (width c) v w x t y z (d ∙ sym a) (f ∙ sym b) (g ∙ sym e))) ts q) vs p)
 
 adder_cost : (c : Cell) → IsAdder c → cost_of fa_carry_formula (operand_widths c) [] + cost_of fa_sum_formula (operand_widths c) [] ≤ weight c
 adder_cost c u =

@@ -100,10 +100,10 @@ one_kind op c table u w fine r =
     rule c (own_taint c) (y_width c) 0 (number_of c AWidth ∷ []) (one_bits op c) u.widths u.output
     (formed_ta (y_width c) (number_of c AWidth) (a_signed c) (number_of c AWidth ∷ []) [] refl u.a u.y) (omega arith) fine r
     (λ vs ts a b. one_word (λ us. IsExact (y_width c) (one_bits op c) us ts (value_of (own_taint c) us ts [])) (number_of c AWidth)
-      (λ v l. one_word (λ us. IsExact (y_width c) (one_bits op c) (v ∷ []) us (value_of (own_taint c) (v ∷ []) us [])) (number_of c AWidth)
-        (λ t m. subst (λ x. IsExact (y_width c) (one_bits op c) (v ∷ []) (t ∷ []) x)
-          (sym (value-extended (y_width c) (number_of c AWidth) (a_signed c) (Taint 0) (v ∷ []) (t ∷ []) [] m (let x = u.a in x.some)))
-          (one_exact op (a_signed c) (y_width c) v t table (m ∙ sym l))) ts b) vs a)
+    (λ v l. one_word (λ us. IsExact (y_width c) (one_bits op c) (v ∷ []) us (value_of (own_taint c) (v ∷ []) us [])) (number_of c AWidth)
+    (λ t m. subst (λ x. IsExact (y_width c) (one_bits op c) (v ∷ []) (t ∷ []) x)
+    (sym (value-extended (y_width c) (number_of c AWidth) (a_signed c) (Taint 0) (v ∷ []) (t ∷ []) [] m (let x = u.a in x.some)))
+    (one_exact op (a_signed c) (y_width c) v t table (m ∙ sym l))) ts b) vs a)
 
 -- ---- reductions
 
@@ -118,8 +118,8 @@ one_flag h f t k c u formed w fine r value exact =
     rule c (flag_formula (y_width c) f) (y_width c) k (number_of c AWidth ∷ []) (flag_bits h c) u.widths u.output
     (formed_extended (y_width c) 1 false formed (omega arith) y.some (omega arith)) w fine r
     (λ vs ts a b. one_word (λ us. IsExact (y_width c) (flag_bits h c) us ts (value_of (flag_formula (y_width c) f) us ts [])) (number_of c AWidth)
-      (λ v l. one_word (λ us. IsExact (y_width c) (flag_bits h c) (v ∷ []) us (value_of (flag_formula (y_width c) f) (v ∷ []) us [])) (number_of c AWidth)
-        (λ x m. subst (λ z. IsExact (y_width c) (flag_bits h c) (v ∷ []) (x ∷ []) z) (sym (value-flag (y_width c) f (v ∷ []) (x ∷ []) (t v x) (value v x (m ∙ sym l)))) (exact v x (m ∙ sym l))) ts b) vs a)
+    (λ v l. one_word (λ us. IsExact (y_width c) (flag_bits h c) (v ∷ []) us (value_of (flag_formula (y_width c) f) (v ∷ []) us [])) (number_of c AWidth)
+    (λ x m. subst (λ z. IsExact (y_width c) (flag_bits h c) (v ∷ []) (x ∷ []) z) (sym (value-flag (y_width c) f (v ∷ []) (x ∷ []) (t v x) (value v x (m ∙ sym l)))) (exact v x (m ∙ sym l))) ts b) vs a)
 
 pub two_flag : (h : List Word → Bool) (f : Formula) (t : Word → Word → Word → Word → Bool) (k : ℕ) (c : Cell) → IsBinary c → IsFormed f (number_of c AWidth ∷ number_of c BWidth ∷ []) [] 1 k → k ≤ weight c → is_coarse c.kind ≡ false → ((i : ℕ) (us : List Word) → output_bit c 0 i us ≡ flag_bits h c i us)
     → ((v w x z : Word) → length x ≡ length v → length z ≡ length w → value_of f (v ∷ w ∷ []) (x ∷ z ∷ []) [] ≡ t v w x z ∷ [])
@@ -129,8 +129,8 @@ two_flag h f t k c u formed w fine r value exact =
     rule c (flag_formula (y_width c) f) (y_width c) k (number_of c AWidth ∷ number_of c BWidth ∷ []) (flag_bits h c) u.widths u.output
     (formed_extended (y_width c) 1 false formed (omega arith) y.some (omega arith)) w fine r
     (λ vs ts a b. two_words (λ us. IsExact (y_width c) (flag_bits h c) us ts (value_of (flag_formula (y_width c) f) us ts [])) (number_of c AWidth) (number_of c BWidth)
-      (λ v v' l l'. two_words (λ us. IsExact (y_width c) (flag_bits h c) (v ∷ v' ∷ []) us (value_of (flag_formula (y_width c) f) (v ∷ v' ∷ []) us [])) (number_of c AWidth) (number_of c BWidth)
-        (λ x x' m m'. subst (λ z. IsExact (y_width c) (flag_bits h c) (v ∷ v' ∷ []) (x ∷ x' ∷ []) z) (sym (value-flag (y_width c) f (v ∷ v' ∷ []) (x ∷ x' ∷ []) (t v v' x x') (value v v' x x' (m ∙ sym l) (m' ∙ sym l')))) (exact v v' x x' (m ∙ sym l) (m' ∙ sym l'))) ts b) vs a)
+    (λ v v' l l'. two_words (λ us. IsExact (y_width c) (flag_bits h c) (v ∷ v' ∷ []) us (value_of (flag_formula (y_width c) f) (v ∷ v' ∷ []) us [])) (number_of c AWidth) (number_of c BWidth)
+    (λ x x' m m'. subst (λ z. IsExact (y_width c) (flag_bits h c) (v ∷ v' ∷ []) (x ∷ x' ∷ []) z) (sym (value-flag (y_width c) f (v ∷ v' ∷ []) (x ∷ x' ∷ []) (t v v' x x') (value v v' x x' (m ∙ sym l) (m' ∙ sym l')))) (exact v v' x x' (m ∙ sym l) (m' ∙ sym l'))) ts b) vs a)
 
 -- ---- bitwise kinds with two operands
 
@@ -171,6 +171,6 @@ pub two_kind : (op : Bool → Bool → Bool) (bit_rule : Bool → Bool → Bool 
 two_kind op bit_rule f k c table u formed l fine r value =
     rule c f (y_width c) k (number_of c AWidth ∷ number_of c BWidth ∷ []) (two_bits op c) u.widths u.output formed l fine r
     (λ vs ts a b. two_words (λ us. IsExact (y_width c) (two_bits op c) us ts (value_of f us ts [])) (number_of c AWidth) (number_of c BWidth)
-      (λ v v' l l'. two_words (λ us. IsExact (y_width c) (two_bits op c) (v ∷ v' ∷ []) us (value_of f (v ∷ v' ∷ []) us [])) (number_of c AWidth) (number_of c BWidth)
-        (λ x x' m m'. subst (λ z. IsExact (y_width c) (two_bits op c) (v ∷ v' ∷ []) (x ∷ x' ∷ []) z) (sym (value v v' x x' (are_extended c v v' x x' u l l' m m')))
-          (two_exact op bit_rule (both_signed c) (y_width c) v v' x x' table (m ∙ sym l) (m' ∙ sym l'))) ts b) vs a)
+    (λ v v' l l'. two_words (λ us. IsExact (y_width c) (two_bits op c) (v ∷ v' ∷ []) us (value_of f (v ∷ v' ∷ []) us [])) (number_of c AWidth) (number_of c BWidth)
+    (λ x x' m m'. subst (λ z. IsExact (y_width c) (two_bits op c) (v ∷ v' ∷ []) (x ∷ x' ∷ []) z) (sym (value v v' x x' (are_extended c v v' x x' u l l' m m')))
+    (two_exact op bit_rule (both_signed c) (y_width c) v v' x x' table (m ∙ sym l) (m' ∙ sym l'))) ts b) vs a)

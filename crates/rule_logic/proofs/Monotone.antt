@@ -107,9 +107,9 @@ spread_by : (f : List Word → Bool) (vs ts us ws : List Word) → Grows f → S
 spread_by f vs ts us ws g s a b h k =
     and_both _ _ (g us (maxes vs ts) (completion_below vs ts us s a) h) (not_false (f (mins vs ts)) (low (f (mins vs ts)) refl))
   where
-  low : (x : Bool) → f (mins vs ts) ≡ x → f (mins vs ts) ≡ false
-  low false e = e
-  low true e = absurd (let q : f ws ≡ true = g (mins vs ts) ws (completion_above vs ts ws s b) e in cc)
+    low : (x : Bool) → f (mins vs ts) ≡ x → f (mins vs ts) ≡ false
+    low false e = e
+    low true e = absurd (let q : f ws ≡ true = g (mins vs ts) ws (completion_above vs ts ws s b) e in cc)
 
 pub differs_spread : (f : List Word → Bool) (vs ts : List Word) → Grows f → SameShape vs ts → CanDiffer f vs ts → spreads f vs ts ≡ true
 differs_spread f vs ts g s d = elim (differ_cases (f d.first) (f d.second) d.differ) [

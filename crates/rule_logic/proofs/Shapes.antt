@@ -77,5 +77,5 @@ pub is_taint : (c : Cell) (p : ℕ) (f : Formula) (n k : ℕ) (ws : List ℕ) (h
 is_taint c p f n k ws h e o formed fine row exact = record {
   formed = ap (λ x. width_of f x []) e ∙ formed.width ∙ ap (λ x. Some x) (sym o);
   means = λ vs ts a b. exact_taint c p h vs ts (value_of f vs ts []) fine row
-    (subst (λ x. IsExact x h vs ts (value_of f vs ts [])) (sym o) (exact vs ts (a ∙ e) (b ∙ e)));
+      (subst (λ x. IsExact x h vs ts (value_of f vs ts [])) (sym o) (exact vs ts (a ∙ e) (b ∙ e)));
 }

@@ -62,11 +62,7 @@ fn slice_term(alloc: Global, cell: &Cell) -> Result<Term, NoMemory>
 {
     let offset = cell.number(Param::Offset) as u32;
     let width = cell.number(Param::YWidth) as u32;
-    Ok(Term::pick(
-        alloc,
-        Term::Taint(0),
-        places_from(alloc, offset, width)?,
-    )?)
+    Ok(Term::pick(alloc, Term::Taint(0), places_from(alloc, offset, width)?)?)
 }
 
 /// The taint of an output of `$fa`: X is output 0, and Y output 1.

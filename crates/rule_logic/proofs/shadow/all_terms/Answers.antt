@@ -13,4 +13,4 @@ loop-output-preserved c = term_push _ _ _ _ _ c.loop-output.invariant c.in_ok-pu
 pub returns : goal.returns
 returns c = terms_are c.args.cell.now _ _ c.requires.covered c.requires.fitted c.loop-output.invariant
     (let done : c.loop-output.output ≡ length c.outputs.result.now = (let e = c.loop-output.auto.output-end in let f = c.loop-output-test.false in omega arith) in
-      done ∙ ap length c.outputs.ensures ∙ ap (λ k. length (outputs_of k)) c.kind.ensures)
+    done ∙ ap length c.outputs.ensures ∙ ap (λ k. length (outputs_of k)) c.kind.ensures)
