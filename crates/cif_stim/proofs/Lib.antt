@@ -5,6 +5,7 @@ pub mod Places
 pub mod Words
 pub mod Narrow
 pub mod Sets
+pub mod Fits
 pub mod Forms
 pub mod Heads
 pub mod Groups

@@ -7,3 +7,4 @@ pub mod Reading
 pub mod Forms
 pub mod Heads
 pub mod Cursor
+pub mod Fitting

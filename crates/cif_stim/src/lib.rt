@@ -2,6 +2,7 @@
 #![tactic(auto)]
 
 mod fault;
+mod fitting;
 mod form;
 mod inputs;
 mod line;

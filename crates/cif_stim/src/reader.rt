@@ -32,7 +32,7 @@ fn is_clock_source(netlist: &Netlist, source: Src) -> bool
 }
 
 /// Whether a port is the clock's.
-fn is_clock(netlist: &Netlist, port: &Wire) -> bool
+pub fn is_clock(netlist: &Netlist, port: &Wire) -> bool
     ensures { result ≡ list_any (is_clock_src (netlist_of netlist.now)) port.now.bits }
 {
     port.items()

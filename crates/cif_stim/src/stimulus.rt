@@ -4,7 +4,9 @@ ghost use Rattle.cif_defs.specs.Words.{bit};
 ghost use Rattle.cif_defs.specs.Accepted.{netlist_of};
 ghost use Rattle.cif_defs.specs.Stimulus.{input_at, held_by, unset, start_at, reg_line, mem_line, release_line, cycle_line, set_line};
 ghost use Rattle.cif_stim.specs.StimulusView.{line_seen, tainted, Adds};
+ghost use Rattle.cif_stim.specs.Fitting.{fits_of};
 
+use crate::fitting::lines_fit;
 use crate::line::{Held, Pair, StimLine};
 use crate::walk::{last_set, set_pair, set_words, started_pair, stores};
 use cif_bits::{Bits, NoMemory};
@@ -106,6 +108,28 @@ impl Stimulus {
             taint: false,
         };
         started_pair(&self.lines[..self.starts], owner, index, given)
+    }
+}
+
+/// Whether its lines are those of a netlist.
+impl Stimulus {
+    /// Whether each line fits a netlist, and none gives again what a line before it gave:
+    ///
+    /// - a `Reg` line names a register, with asynchronous reset or without, its words have the register's width, and no
+    ///   two name the same cell;
+    /// - a `Mem` line names a memory, its address lies from the memory's offset on within its size, its words have the
+    ///   memory's width, and no two have the same cell and address;
+    /// - the name of a `Release` line is found as a wire of the bits that the line keeps, and no two have the same name;
+    /// - a `Set` line names an input port other than the clock, its words have the port's width, and no port is set
+    ///   twice in a group, which a `Cycle` line begins.
+    ///
+    /// It takes no memory. It looks for a cell and for an input port through all of them, and compares each `Reg`, `Mem`
+    /// and `Release` line with all lines before it, and each `Set` line with those of its group.
+    #[tactic(auto, unfolding(crate::specs::Fitting::fits_of))]
+    pub fn fits(&self, netlist: &Netlist) -> bool
+        ensures { result ≡ fits_of netlist.now self.now }
+    {
+        lines_fit(netlist, &self.lines)
     }
 }
 

@@ -1,0 +1,264 @@
+// Whether the lines of a stimulus fit a netlist.
+ghost use Rattle.std.specs.Prelude.{◌≡◌, ◌&&◌, ◌==◌, ◌≤◌, Some, None, map, length, bytes_eq, reverse, option_map, []};
+ghost use Rattle.std.specs.List.{find, list_any};
+ghost use Rattle.std.specs.Option.{option_copied};
+ghost use Rattle.cif_defs.specs.Accepted.{netlist_of};
+ghost use Rattle.cif_defs.specs.declared.nets.Wire.{Wire as WireData};
+ghost use Rattle.cif_defs.specs.Kinds.{role_of};
+ghost use Rattle.cif_defs.specs.StimulusText.{settable};
+ghost use Rattle.cif_cells.specs.Wires.{found_seen};
+ghost use Rattle.cif_stim.specs.StimulusView.{line_seen, tainted};
+ghost use Rattle.cif_stim.specs.Fitting.{cell_named as cell_of_name, is_register as is_register_role, is_memory as is_memory_role, has_width as has_width_of, has_address as has_address_of, fits_register as fits_register_of, fits_memory as fits_memory_of, fits_found as fits_found_of, fits_port as fits_port_of, are_same_sources as are_same_sources_of, line_fits as line_fits_of, is_reg_of, is_mem_of, is_release_of, is_set_among, is_again as is_again_of, lines_fit as lines_fit_of};
+
+use crate::line::StimLine;
+use crate::reader::is_clock;
+use cif_bits::Bits;
+use cif_cells::table::role;
+use cif_cells::{Cell, Found, Netlist};
+use cif_defs::{Param, Role, Src, Wire};
+
+/// The cell of a name. It looks through the cells from the first on.
+fn cell_named<'a>(cells: &'a [Cell], name: &[u8]) -> Option<&'a Cell>
+    ensures { option_copied result ≡ cell_of_name cells.now name.now }
+{
+    cells.iter().find(|cell| cell.name().items() == name)
+}
+
+/// Whether a word and its taint have so many bits.
+fn has_width(value: &Bits, taint: &Bits, width: u64) -> bool
+    ensures { result ≡ has_width_of (tainted value.now taint.now) width }
+{
+    value.bits().len() as u64 == width && taint.bits().len() as u64 == width
+}
+
+/// Whether a role is that of a register.
+fn is_register(role: Role) -> bool
+    ensures { result ≡ is_register_role role }
+{
+    match role {
+        Role::PlainRegister | Role::ResetRegister => true,
+        Role::MemoryBlock | Role::Combinational | Role::CarriedOver => false,
+    }
+}
+
+/// Whether a role is that of a memory.
+fn is_memory(role: Role) -> bool
+    ensures { result ≡ is_memory_role role }
+{
+    match role {
+        Role::MemoryBlock => true,
+        Role::PlainRegister | Role::ResetRegister | Role::Combinational | Role::CarriedOver => {
+            false
+        }
+    }
+}
+
+/// Whether a memory has a row of an address.
+fn has_address(cell: &Cell, address: u64) -> bool
+    ensures { result ≡ has_address_of cell.now address }
+{
+    let offset = cell.number(Param::Offset);
+    address >= offset && address - offset < cell.number(Param::Size)
+}
+
+/// Whether there is a register, and a word has its width.
+fn fits_register(cell: Option<&Cell>, value: &Bits, taint: &Bits) -> bool
+    ensures { result ≡ fits_register_of (tainted value.now taint.now) (option_copied cell.entry) }
+{
+    match cell {
+        Some(cell) => {
+            is_register(role(cell.kind())) && has_width(value, taint, cell.number(Param::Width))
+        }
+        None => false,
+    }
+}
+
+/// Whether there is a memory, it has an address, and a word has its width.
+fn fits_memory(cell: Option<&Cell>, address: u64, value: &Bits, taint: &Bits) -> bool
+    ensures { result ≡ fits_memory_of address (tainted value.now taint.now) (option_copied cell.entry) }
+{
+    match cell {
+        Some(cell) => {
+            is_memory(role(cell.kind()))
+                && has_address(cell, address)
+                && has_width(value, taint, cell.number(Param::Width))
+        }
+        None => false,
+    }
+}
+
+/// Whether bits are the same, one by one.
+fn are_same_sources(first: &[Src], second: &[Src]) -> bool
+    ensures { result ≡ are_same_sources_of first.now second.now }
+{
+    first == second
+}
+
+/// Whether what a name gives is a wire of these bits.
+fn fits_found(found: Found<'_>, bits: &[Src]) -> bool
+    ensures { result ≡ fits_found_of bits.now (found_seen found.entry) }
+{
+    match found {
+        Found::Wire(wire) => are_same_sources(wire.items(), bits),
+        Found::NotTwoValued | Found::Missing => false,
+    }
+}
+
+/// The port of a name. It looks through the ports from the first on.
+fn port_named<'a>(ports: &'a [Wire], name: &[u8]) -> Option<&'a Wire>
+    ensures { option_copied result ≡ find (λ (w : WireData). bytes_eq w.name name.now) ports.now }
+{
+    ports.iter().find(|port| port.name().items() == name)
+}
+
+/// The input port of a name, other than the clock.
+#[tactic(auto, unfolding(cif_defs::specs::StimulusText::settable))]
+fn settable_port<'a>(netlist: &'a Netlist, name: &[u8]) -> Option<&'a Wire>
+    ensures { option_copied result ≡ settable (netlist_of netlist.now) name.now }
+{
+    match port_named(netlist.inputs(), name) {
+        Some(port) => {
+            if is_clock(netlist, port) {
+                None
+            } else {
+                Some(port)
+            }
+        }
+        None => None,
+    }
+}
+
+/// Whether there is a port, and a word has its width.
+fn fits_port(port: Option<&Wire>, value: &Bits, taint: &Bits) -> bool
+    ensures { result ≡ fits_port_of (tainted value.now taint.now) (option_copied port.entry) }
+{
+    match port {
+        Some(port) => has_width(value, taint, port.items().len() as u64),
+        None => false,
+    }
+}
+
+/// Whether a line fits a netlist by itself.
+fn line_fits(netlist: &Netlist, line: &StimLine) -> bool
+    ensures { result ≡ line_fits_of netlist.now (line_seen line.now) }
+{
+    match line {
+        StimLine::Reg { cell, value, taint } => {
+            fits_register(cell_named(netlist.cells(), cell.items()), value, taint)
+        }
+        StimLine::Mem {
+            cell,
+            address,
+            value,
+            taint,
+        } => {
+            let memory = cell_named(netlist.cells(), cell.items());
+            fits_memory(memory, *address, value, taint)
+        }
+        StimLine::Release { name, wire } => fits_found(netlist.find(name.items()), wire.items()),
+        StimLine::Cycle(_) => true,
+        StimLine::Set { port, value, taint } => {
+            fits_port(settable_port(netlist, port.items()), value, taint)
+        }
+    }
+}
+
+/// Whether a line is the word of a register.
+fn is_reg(line: &StimLine, name: &[u8]) -> bool
+    ensures { result ≡ is_reg_of name.now (line_seen line.now) }
+{
+    match line {
+        StimLine::Reg { cell, .. } => cell.items() == name,
+        StimLine::Mem { .. }
+        | StimLine::Release { .. }
+        | StimLine::Cycle(_)
+        | StimLine::Set { .. } => false,
+    }
+}
+
+/// Whether a line is the word of a memory at an address.
+fn is_mem(line: &StimLine, name: &[u8], place: u64) -> bool
+    ensures { result ≡ is_mem_of name.now place (line_seen line.now) }
+{
+    match line {
+        StimLine::Mem { cell, address, .. } => cell.items() == name && *address == place,
+        StimLine::Reg { .. }
+        | StimLine::Release { .. }
+        | StimLine::Cycle(_)
+        | StimLine::Set { .. } => false,
+    }
+}
+
+/// Whether a line releases a name.
+fn is_release(line: &StimLine, sought: &[u8]) -> bool
+    ensures { result ≡ is_release_of sought.now (line_seen line.now) }
+{
+    match line {
+        StimLine::Release { name, .. } => name.items() == sought,
+        StimLine::Reg { .. } | StimLine::Mem { .. } | StimLine::Cycle(_) | StimLine::Set { .. } =>
+            false,
+    }
+}
+
+/// Whether some line is the word of a register.
+fn has_reg(lines: &[StimLine], name: &[u8]) -> bool
+    ensures { result ≡ list_any (λ l. is_reg_of name.now (line_seen l)) lines.now }
+{
+    lines.iter().any(|line| is_reg(line, name))
+}
+
+/// Whether some line is the word of a memory at an address.
+fn has_mem(lines: &[StimLine], name: &[u8], place: u64) -> bool
+    ensures { result ≡ list_any (λ l. is_mem_of name.now place (line_seen l)) lines.now }
+{
+    lines.iter().any(|line| is_mem(line, name, place))
+}
+
+/// Whether some line releases a name.
+fn has_release(lines: &[StimLine], name: &[u8]) -> bool
+    ensures { result ≡ list_any (λ l. is_release_of name.now (line_seen l)) lines.now }
+{
+    lines.iter().any(|line| is_release(line, name))
+}
+
+/// Whether a port is set in the group that lines end in. It goes back from the last line.
+fn is_set(lines: &[StimLine], name: &[u8]) -> bool
+    ensures { result ≡ is_set_among name.now (reverse (map line_seen lines.now)) }
+{
+    let mut end = lines.len();
+    while end > 0 {
+        end -= 1;
+        match &lines[end] {
+            StimLine::Cycle(_) => return false,
+            StimLine::Set { port, .. } if name == port.items() => return true,
+            _ => {}
+        }
+    }
+    false
+}
+
+/// Whether a line gives what one of the lines before it gave.
+fn is_again(line: &StimLine, before: &[StimLine]) -> bool
+    ensures { result ≡ is_again_of (line_seen line.now) (reverse (map line_seen before.now)) }
+{
+    match line {
+        StimLine::Reg { cell, .. } => has_reg(before, cell.items()),
+        StimLine::Mem { cell, address, .. } => has_mem(before, cell.items(), *address),
+        StimLine::Release { name, .. } => has_release(before, name.items()),
+        StimLine::Cycle(_) => false,
+        StimLine::Set { port, .. } => is_set(before, port.items()),
+    }
+}
+
+/// Whether each line fits a netlist by itself, and none gives again what one before it gave.
+pub fn lines_fit(netlist: &Netlist, lines: &[StimLine]) -> bool
+    ensures { result ≡ lines_fit_of netlist.now [] (map line_seen lines.now) }
+{
+    for number in 0..lines.len() {
+        let line = &lines[number];
+        if !line_fits(netlist, line) || is_again(line, &lines[..number]) {
+            return false;
+        }
+    }
+    true
+}
