@@ -7,7 +7,7 @@ use cif_cells::{
 use std::alloc::{AllocError, Global};
 
 /// A cell: its kind, and the numbers of its parameters in the order in which the table of kinds has them, as A_SIGNED,
-/// B_SIGNED, A_WIDTH, B_WIDTH, Y_WIDTH.
+/// B_SIGNED, A_WIDTH, B_WIDTH, Y_WIDTH. A table of digits is given as their number.
 #[derive(Drop)]
 pub struct Shape<'a> {
     pub kind: Kind,
@@ -91,13 +91,39 @@ impl Parts {
     }
 }
 
+/// The digits of a table, highest first, whose number is `number` and which has a place for each of `2^power` addresses.
+fn table_digits(alloc: Global, number: u8, power: u32) -> Result<Vec<u8>, AllocError> {
+    let mut digits = Vec::new(alloc);
+    for place in (0..1u32.wrapping_shl(power)).rev() {
+        let is_one = u32::from(number).wrapping_shr(place) % 2 == 1;
+        digits.push(if is_one { b'1' } else { b'0' })?;
+    }
+    Ok(digits)
+}
+
+/// What a cell gives for a parameter: a number, or the digits of a table of 1, 2, 4 or 8 places.
+fn value_of(
+    alloc: Global,
+    shape: &Shape<'_>,
+    param: Param,
+    number: u8,
+) -> Result<ParamValue, AllocError> {
+    if table::is_table(param) {
+        let power = shape.number(Param::Width).min(3);
+        let digits = table_digits(alloc, number, power)?;
+        Ok(ParamValue::Text(Name::of(digits)))
+    } else {
+        Ok(ParamValue::Number(i128::from(number)))
+    }
+}
+
 /// The parameters of a cell.
 fn parameters(alloc: Global, shape: &Shape<'_>) -> Result<Vec<RawParam>, AllocError> {
     let mut given = Vec::new(alloc);
     for (param, number) in table::parameters(shape.kind).iter().zip(shape.numbers) {
         given.push(RawParam {
             name: name_of(alloc, table::param_name(*param))?,
-            value: ParamValue::Number(i128::from(*number)),
+            value: value_of(alloc, shape, *param, *number)?,
         })?;
     }
     Ok(given)

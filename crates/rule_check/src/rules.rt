@@ -14,7 +14,7 @@ use std::alloc::Global;
 pub fn has_rule(kind: Kind) -> bool
     ensures { result ≡ has_rule kind }
 {
-    rule_logic::covers(kind) || rule_select::covers(kind)
+    rule_logic::covers(kind) || rule_arith::covers(kind) || rule_select::covers(kind)
 }
 
 /// The terms of a cell's taint, one for each output.
@@ -25,6 +25,8 @@ fn taint_terms(alloc: Global, cell: &Cell) -> Result<Vec<Term>, NoMemory>
 {
     if rule_logic::covers(cell.kind()) {
         rule_logic::taint_terms(alloc, cell)
+    } else if rule_arith::covers(cell.kind()) {
+        rule_arith::taint_terms(alloc, cell)
     } else {
         rule_select::taint_terms(alloc, cell)
     }
