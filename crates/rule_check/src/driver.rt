@@ -1,19 +1,19 @@
 // The comparison over all values and all taints of cells of small widths.
 
-ghost use Rattle.std.specs.Prelude.{◌≡◌, ◌↔◌, true, length, map, IsTrue};
+ghost use Rattle.std.specs.Prelude.{◌≡◌, ◌↔◌, length, map, IsTrue};
 ghost use Rattle.cif_defs.specs.Fitted.{IsFitted, operand_widths};
-ghost use Rattle.rule_check.specs.Rules.{has_rule};
 
 use crate::agree::agrees;
 use crate::modules::{Shape, module_of};
-use crate::rules::has_rule;
+use crate::plain::is_coarse_taint;
+use crate::rules::{coarse_by_rule, has_rule};
 use cif_bits::{Bits, NoMemory};
 use cif_cells::{Cell, Kind, Netlist};
 use std::alloc::Global;
 use std::process::Abort;
 use std::test::Fail;
 
-/// How many cases were compared, and at how many of them rule and enumeration gave other taints.
+/// How many cases were compared, and at how many of them the rule gave another taint than it has to.
 #[derive(Clone, Copy, Debug, Drop, PartialEq, Eq)]
 pub struct Tally {
     pub cases: u64,
@@ -76,6 +76,28 @@ pub fn words_of(alloc: Global, cell: &Cell, number: u64) -> Result<Vec<Bits>, No
     Ok(words)
 }
 
+/// Whether the rule of a cell gives the right taint: that of the enumeration, or for a product or a division the one that
+/// is worked out on plain numbers.
+fn is_right(
+    rt: &impl Abort,
+    alloc: Global,
+    cell: &Cell,
+    values: &[Bits],
+    taints: &[Bits],
+) -> Result<bool, NoMemory>
+    requires fitted { IsFitted cell.now }
+    requires values { map length values.now ≡ operand_widths cell.now }
+    requires taints { map length taints.now ≡ operand_widths cell.now }
+{
+    if has_rule(cell.kind()) {
+        agrees(alloc, cell, values, taints)
+    } else {
+        assert!(rt; rule_coarse::covers(cell.kind()));
+        let words = coarse_by_rule(alloc, cell, values, taints)?;
+        Ok(is_coarse_taint(rt, cell, values, taints, &words))
+    }
+}
+
 /// Compares at all taints, which `count` numbers stand for.
 fn compare_taints(
     rt: &impl Abort,
@@ -85,14 +107,13 @@ fn compare_taints(
     count: u64,
     tally: &mut Tally,
 ) -> Result<(), NoMemory>
-    requires covered { has_rule cell.now.kind ≡ true }
     requires fitted { IsFitted cell.now }
     requires values { map length values.now ≡ operand_widths cell.now }
 {
     for number in 0..count {
         let taints = words_of(alloc, cell, number)?;
         assert!(rt; are_operands(cell, &taints));
-        tally.count(agrees(alloc, cell, values, &taints)?);
+        tally.count(is_right(rt, alloc, cell, values, &taints)?);
     }
     Ok(())
 }
@@ -105,7 +126,6 @@ fn compare_values(
     count: u64,
     tally: &mut Tally,
 ) -> Result<(), NoMemory>
-    requires covered { has_rule cell.now.kind ≡ true }
     requires fitted { IsFitted cell.now }
 {
     for number in 0..count {
@@ -127,7 +147,6 @@ fn compare_cell(
     let cells = netlist.cells();
     assert_eq!(rt; cells.len(), 1);
     let cell = &cells[0];
-    assert!(rt; has_rule(cell.kind()));
     let bits = operand_bits(cell);
     assert!(rt; bits <= 8);
     compare_values(rt, alloc, cell, 1 << bits, tally)?;

@@ -2,7 +2,8 @@
 //!
 //! A rule is a term that computes the taint of a cell; the enumeration tries every completion of the cell's operands. Both
 //! are proved to give the exact taint, so that they always agree: here they are run side by side over small widths, at
-//! all values and all taints. The crate is no part of the program.
+//! all values and all taints. Products and divisions have a coarse taint, which is compared with what the words of its rule
+//! give on plain numbers. The crate is no part of the program.
 #![tactic(auto)]
 
 mod agree;
@@ -12,9 +13,11 @@ mod driver;
 mod examples;
 #[cfg(test)]
 mod modules;
+#[cfg(test)]
+mod plain;
 mod rules;
 #[cfg(test)]
 mod tests;
 
 pub use agree::agrees;
-pub use rules::{has_rule, taints_by_rule};
+pub use rules::{coarse_by_rule, has_rule, taints_by_rule};

@@ -3,6 +3,7 @@ ghost use Rattle.std.specs.Prelude.{◌≡◌, true, length, map, IfOk};
 ghost use Rattle.cif_defs.specs.Fitted.{IsFitted, operand_widths};
 ghost use Rattle.cif_term.specs.CellTaints.{AreTaintsOf};
 ghost use Rattle.cif_term.specs.TermView.{formula_of};
+ghost use Rattle.rule_coarse.specs.CoarseFormulas.{covers_coarse};
 ghost use Rattle.rule_check.specs.Rules.{has_rule, taint_words};
 
 use cif_bits::{Bits, NoMemory};
@@ -67,5 +68,23 @@ pub fn taints_by_rule(
     ensures { IfOk result (λ ws. ws.items ≡ taint_words cell.now values.now taints.now) }
 {
     let terms = taint_terms(alloc, cell)?;
+    Ok(term_words(alloc, cell, &terms, values, taints)?)
+}
+
+/// The taint words of the output of a product or a division by its rule, for operand words `values` with the taints
+/// `taints`.
+pub fn coarse_by_rule(
+    alloc: Global,
+    cell: &Cell,
+    values: &[Bits],
+    taints: &[Bits],
+) -> Result<Vec<Bits>, NoMemory>
+    requires covered { covers_coarse cell.now.kind ≡ true }
+    requires fitted { IsFitted cell.now }
+    requires values { map length values.now ≡ operand_widths cell.now }
+    requires taints { map length taints.now ≡ operand_widths cell.now }
+    ensures { IfOk result (λ ws. ws.items ≡ taint_words cell.now values.now taints.now) }
+{
+    let terms = rule_coarse::taint_terms(alloc, cell)?;
     Ok(term_words(alloc, cell, &terms, values, taints)?)
 }

@@ -1,5 +1,7 @@
 // Each family of kinds, at small widths.
 //
+// Products and divisions have coarse rules, which are compared with the words of those rules, worked out on plain numbers.
+//
 // A cell with operands of n bits together has 2^n values and 2^n taints, so 4^n cases.
 
 use crate::driver::{Family, Tally, compared};
@@ -365,5 +367,78 @@ fn lut_kind(rt: HostRuntime) -> Result<(), Fail> {
     };
     let tally = compared(&rt, rt.alloc(), &family)?;
     assert_eq!(rt; tally, all_agree(4 * 4 + 6 * 16));
+    Ok(())
+}
+
+// Parameters: A_SIGNED, B_SIGNED, A_WIDTH, B_WIDTH, Y_WIDTH. Each of 4 pairs of signs has 2 rows of 16, 4 of 64, 2 of 256
+// and 2 of 1024 cases: 11392 for a kind.
+#[test]
+fn products_and_quotients(rt: HostRuntime) -> Result<(), Fail> {
+    let family = Family {
+        kinds: &[Kind::Mul, Kind::Div],
+        signs: &[&[0, 0], &[0, 1], &[1, 0], &[1, 1]],
+        widths: &[
+            &[1, 1, 1],
+            &[1, 1, 3],
+            &[1, 2, 1],
+            &[1, 2, 3],
+            &[2, 1, 1],
+            &[2, 1, 3],
+            &[2, 2, 1],
+            &[2, 2, 3],
+            &[2, 3, 4],
+            &[3, 2, 2],
+        ],
+    };
+    let tally = compared(&rt, rt.alloc(), &family)?;
+    assert_eq!(rt; tally, all_agree(2 * 11392));
+    Ok(())
+}
+
+// The same with 6 operand bits: 2 pairs of signs with 4096 cases.
+#[test]
+fn wide_products(rt: HostRuntime) -> Result<(), Fail> {
+    let family = Family {
+        kinds: &[Kind::Mul],
+        signs: &[&[0, 0], &[1, 1]],
+        widths: &[&[3, 3, 4]],
+    };
+    let tally = compared(&rt, rt.alloc(), &family)?;
+    assert_eq!(rt; tally, all_agree(2 * 4096));
+    Ok(())
+}
+
+// The same with 6 operand bits: 2 pairs of signs with 4096 cases.
+#[test]
+fn wide_quotients(rt: HostRuntime) -> Result<(), Fail> {
+    let family = Family {
+        kinds: &[Kind::Div],
+        signs: &[&[0, 0], &[1, 1]],
+        widths: &[&[3, 3, 3]],
+    };
+    let tally = compared(&rt, rt.alloc(), &family)?;
+    assert_eq!(rt; tally, all_agree(2 * 4096));
+    Ok(())
+}
+
+// Each of 4 pairs of signs has 2 rows of 16, 4 of 64 and 2 of 256 cases: 3200 for a kind.
+#[test]
+fn other_divisions(rt: HostRuntime) -> Result<(), Fail> {
+    let family = Family {
+        kinds: &[Kind::Mod, Kind::DivFloor, Kind::ModFloor],
+        signs: &[&[0, 0], &[0, 1], &[1, 0], &[1, 1]],
+        widths: &[
+            &[1, 1, 1],
+            &[1, 1, 3],
+            &[1, 2, 1],
+            &[1, 2, 3],
+            &[2, 1, 1],
+            &[2, 1, 3],
+            &[2, 2, 1],
+            &[2, 2, 3],
+        ],
+    };
+    let tally = compared(&rt, rt.alloc(), &family)?;
+    assert_eq!(rt; tally, all_agree(3 * 3200));
     Ok(())
 }
