@@ -8,5 +8,6 @@ pub mod Sets
 pub mod Fits
 pub mod Forms
 pub mod Heads
+pub mod ReadFits
 pub mod Groups
 pub mod Cursors

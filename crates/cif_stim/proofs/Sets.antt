@@ -76,7 +76,7 @@ second_true : (a b : Bool) → (a && b) ≡ true → b ≡ true
 second_true true b h = h
 second_true false b h = absurd (cc)
 
-bit_width : (n : ℕ) (value : List ℕ) → is_bit_word n value ≡ true → length value ≡ n
+pub bit_width : (n : ℕ) (value : List ℕ) → is_bit_word n value ≡ true → length value ≡ n
 bit_width n value h = (Decides-eqb (length value) n).0 (second_true (is_binary value) (length value == n) h)
 
 pub set_bad_taint : (n : Netlist) (group : Group) (port value : List ℕ) (taint : Option (Bor (List ℕ))) (w : Wire) → settable n port ≡ Some w → is_bit_word (length w.bits) value ≡ true → taint_fits (length w.bits) taint ≡ false → set_step n group port value taint ≡ None

@@ -74,7 +74,7 @@ fn fits_register(cell: Option<&Cell>, value: &Bits, taint: &Bits) -> bool
 }
 
 /// Whether there is a memory, it has an address, and a word has its width.
-fn fits_memory(cell: Option<&Cell>, address: u64, value: &Bits, taint: &Bits) -> bool
+pub fn fits_memory(cell: Option<&Cell>, address: u64, value: &Bits, taint: &Bits) -> bool
     ensures { result ≡ fits_memory_of address (tainted value.now taint.now) (option_copied cell.entry) }
 {
     match cell {
@@ -238,7 +238,7 @@ fn is_set(lines: &[StimLine], name: &[u8]) -> bool
 }
 
 /// Whether a line gives what one of the lines before it gave.
-fn is_again(line: &StimLine, before: &[StimLine]) -> bool
+pub fn is_again(line: &StimLine, before: &[StimLine]) -> bool
     ensures { result ≡ is_again_of (line_seen line.now) (reverse (map line_seen before.now)) }
 {
     match line {

@@ -2,6 +2,8 @@
 #![tactic(auto)]
 
 mod fault;
+#[cfg(test)]
+mod fit_tests;
 mod fitting;
 mod form;
 mod inputs;

@@ -1,5 +1,5 @@
 // Reading a stimulus from its text.
-ghost use Rattle.std.specs.Prelude.{◌≡◌, ◌<◌, [], Some, None, IfOk, IfErr, IfSome, IsNone, if◌then◌else◌};
+ghost use Rattle.std.specs.Prelude.{◌≡◌, ◌<◌, [], Some, None, true, IfOk, IfErr, IfSome, IsNone, if◌then◌else◌};
 ghost use Rattle.cif_defs.specs.Accepted.{netlist_of};
 ghost use Rattle.cif_defs.specs.Netlist.{Netlist as NetlistData};
 ghost use Rattle.cif_defs.specs.Text.{words_of};
@@ -7,6 +7,7 @@ ghost use Rattle.cif_defs.specs.StimulusText.{stimulus_read, is_version_line, cy
 ghost use Rattle.cif_stim.specs.Ports.{IsTable};
 ghost use Rattle.cif_stim.specs.Reading.{IsReading, Refuses, lines_in};
 ghost use Rattle.cif_stim.specs.Heads.{IsHead};
+ghost use Rattle.cif_stim.specs.Fitting.{fits_of, lines_fit};
 
 use crate::fault::StimFault;
 use crate::ports::PortTable;
@@ -93,6 +94,7 @@ fn read_groups<'a>(
     ensures lines { IfOk result
         (λ s. lines_in (netlist_of netlist.now) reader.stimulus.cycles text.now ≡ Some s.lines) }
     ensures cycles { IfOk result (λ s. s.cycles ≡ reader.stimulus.cycles) }
+    ensures fits { IfOk result (λ s. lines_fit netlist.now [] s.lines ≡ true) }
     ensures err { IfErr result (λ e. Refuses
         (lines_in (netlist_of netlist.now) reader.stimulus.cycles text.now) e) }
 {
@@ -111,7 +113,8 @@ fn read_groups<'a>(
 /// a line `@ K` and lines `set PORT WORD [TAINT]`. K rises from group to group and is below N. A port is an input port
 /// other than the clock, its word has as many binary digits as the port has bits, the highest first, and so has the
 /// taint, which is all 0 where it is left out. No port is set twice in a group. One space separates words, a name has
-/// no byte that needs a coding, and no line is skipped. All other texts are `NotBuilt`.
+/// no byte that needs a coding, and no line is skipped. All other texts are `NotBuilt`. What is read fits the netlist.
+#[tactic(auto, unfolding(crate::specs::Fitting::fits_of))]
 pub fn read_stimulus<'a>(
     alloc: Global,
     netlist: &'a Netlist,
@@ -119,6 +122,7 @@ pub fn read_stimulus<'a>(
 ) -> Result<Stimulus, StimFault>
     ensures ok { IfOk result
         (λ s. stimulus_read (netlist_of netlist.now) bytes.now ≡ Some s) }
+    ensures fits { IfOk result (λ s. fits_of netlist.now s ≡ true) }
     ensures err { IfErr result
         (λ e. Refuses (stimulus_read (netlist_of netlist.now) bytes.now) e) }
 {

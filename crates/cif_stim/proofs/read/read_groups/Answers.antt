@@ -1,6 +1,7 @@
 use Rattle.std.proofs.Common.{sym, ap, ◌∙◌, refl, Some}
 use Rattle.std.proofs.lemmas.Result.{err_from_is_err_and}
 use Rattle.cif_defs.specs.Stimulus.{Stimulus}
+use Rattle.cif_stim.proofs.ReadFits.{lines_in_fit}
 use Rattle.cif_stim.proofs.Groups.{begins, goes_on, refused, ends}
 use Rattle.cif_stim.proofs.read.read_groups.Goals as goal
 
@@ -21,3 +22,6 @@ loop-rest-preserved c = record {
 
 pub returns-clause-lines : goal.returns-clause-lines
 returns-clause-lines c = ends _ _ c.loop-rest.reader.stimulus.lines _ _ c.loop-rest.invariant.so_far c.loop-rest-test.ensures ∙ ap (λ (s : Stimulus). Some s.lines) (sym c.finish.ensures)
+
+pub returns-clause-fits : goal.returns-clause-fits
+returns-clause-fits c = lines_in_fit _ _ _ _ (returns-clause-lines c)
