@@ -1,21 +1,24 @@
 // Examples of single cells, from files to text.
 use crate::tests::{Wanted, assert_ends, assert_refused};
+use std::alloc::Global;
+use std::process::Abort;
 use std::test::Fail;
 
 /// A netlist evaluated over one cycle writes this line for its one output.
-fn assert_shows(rt: &HostRuntime, net: &str, stim: &str, text: &str) -> Result<(), Fail> {
+fn assert_shows(
+    rt: &impl Abort,
+    alloc: Global,
+    net: &str,
+    stim: &str,
+    text: &str,
+) -> Result<(), Fail> {
     let wanted = Wanted {
         status: 0,
         out: text,
         err: "",
     };
-    assert_ends(
-        rt,
-        rt.alloc(),
-        "eval net stim",
-        &[("net", net), ("stim", stim)],
-        wanted,
-    )
+    let files = [("net", net), ("stim", stim)];
+    assert_ends(rt, alloc, "eval net stim", &files, wanted)
 }
 
 const XOR_OF_ONE_NET: &str = r#"{"modules":{"m":{"ports":{
@@ -27,7 +30,13 @@ const XOR_OF_ONE_NET: &str = r#"{"modules":{"m":{"ports":{
 #[test]
 fn same_net_twice(rt: HostRuntime) -> Result<(), Fail> {
     let stim = "cellift-stimulus 1\ncycles 1\n@ 0\nset a 0 1\n";
-    assert_shows(&rt, XOR_OF_ONE_NET, stim, "cycle 0\ny 0/1\ndone 1\n")?;
+    assert_shows(
+        &rt,
+        rt.alloc(),
+        XOR_OF_ONE_NET,
+        stim,
+        "cycle 0\ny 0/1\ndone 1\n",
+    )?;
     Ok(())
 }
 
@@ -42,9 +51,9 @@ const MUX: &str = r#"{"modules":{"m":{"ports":{
 #[test]
 fn mux_tainted_select(rt: HostRuntime) -> Result<(), Fail> {
     let stim = "cellift-stimulus 1\ncycles 1\n@ 0\nset a 1010 0000\nset b 1010 0000\nset s 0 1\n";
-    assert_shows(&rt, MUX, stim, "cycle 0\ny 1010/0000\ndone 1\n")?;
+    assert_shows(&rt, rt.alloc(), MUX, stim, "cycle 0\ny 1010/0000\ndone 1\n")?;
     let stim = "cellift-stimulus 1\ncycles 1\n@ 0\nset a 1010 0000\nset b 1011 0000\nset s 0 1\n";
-    assert_shows(&rt, MUX, stim, "cycle 0\ny 1010/0001\ndone 1\n")?;
+    assert_shows(&rt, rt.alloc(), MUX, stim, "cycle 0\ny 1010/0001\ndone 1\n")?;
     Ok(())
 }
 
@@ -57,9 +66,21 @@ const REDUCE_AND: &str = r#"{"modules":{"m":{"ports":{
 #[test]
 fn reduce_and(rt: HostRuntime) -> Result<(), Fail> {
     let stim = "cellift-stimulus 1\ncycles 1\n@ 0\nset a 01 01\n";
-    assert_shows(&rt, REDUCE_AND, stim, "cycle 0\ny 0/0\ndone 1\n")?;
+    assert_shows(
+        &rt,
+        rt.alloc(),
+        REDUCE_AND,
+        stim,
+        "cycle 0\ny 0/0\ndone 1\n",
+    )?;
     let stim = "cellift-stimulus 1\ncycles 1\n@ 0\nset a 10 01\n";
-    assert_shows(&rt, REDUCE_AND, stim, "cycle 0\ny 0/1\ndone 1\n")?;
+    assert_shows(
+        &rt,
+        rt.alloc(),
+        REDUCE_AND,
+        stim,
+        "cycle 0\ny 0/1\ndone 1\n",
+    )?;
     Ok(())
 }
 
@@ -73,9 +94,9 @@ const LOGIC_AND: &str = r#"{"modules":{"m":{"ports":{
 #[test]
 fn logic_and(rt: HostRuntime) -> Result<(), Fail> {
     let stim = "cellift-stimulus 1\ncycles 1\n@ 0\nset a 01 01\nset b 00 00\n";
-    assert_shows(&rt, LOGIC_AND, stim, "cycle 0\ny 0/0\ndone 1\n")?;
+    assert_shows(&rt, rt.alloc(), LOGIC_AND, stim, "cycle 0\ny 0/0\ndone 1\n")?;
     let stim = "cellift-stimulus 1\ncycles 1\n@ 0\nset a 01 01\nset b 10 00\n";
-    assert_shows(&rt, LOGIC_AND, stim, "cycle 0\ny 1/1\ndone 1\n")?;
+    assert_shows(&rt, rt.alloc(), LOGIC_AND, stim, "cycle 0\ny 1/1\ndone 1\n")?;
     Ok(())
 }
 
@@ -89,7 +110,7 @@ const ADD: &str = r#"{"modules":{"m":{"ports":{
 #[test]
 fn add_carry_taint(rt: HostRuntime) -> Result<(), Fail> {
     let stim = "cellift-stimulus 1\ncycles 1\n@ 0\nset a 0110 0001\nset b 0001 0000\n";
-    assert_shows(&rt, ADD, stim, "cycle 0\ny 0111/1111\ndone 1\n")?;
+    assert_shows(&rt, rt.alloc(), ADD, stim, "cycle 0\ny 0111/1111\ndone 1\n")?;
     Ok(())
 }
 
@@ -103,7 +124,7 @@ const LESS: &str = r#"{"modules":{"m":{"ports":{
 #[test]
 fn less_than_exact(rt: HostRuntime) -> Result<(), Fail> {
     let stim = "cellift-stimulus 1\ncycles 1\n@ 0\nset a 0100 0011\nset b 1000 0000\n";
-    assert_shows(&rt, LESS, stim, "cycle 0\ny 1/0\ndone 1\n")?;
+    assert_shows(&rt, rt.alloc(), LESS, stim, "cycle 0\ny 1/0\ndone 1\n")?;
     Ok(())
 }
 
@@ -117,7 +138,13 @@ const SIGNED_ADD: &str = r#"{"modules":{"m":{"ports":{
 #[test]
 fn signed_split(rt: HostRuntime) -> Result<(), Fail> {
     let stim = "cellift-stimulus 1\ncycles 1\n@ 0\nset a 0 1\nset b 01 00\n";
-    assert_shows(&rt, SIGNED_ADD, stim, "cycle 0\ny 01/01\ndone 1\n")?;
+    assert_shows(
+        &rt,
+        rt.alloc(),
+        SIGNED_ADD,
+        stim,
+        "cycle 0\ny 01/01\ndone 1\n",
+    )?;
     Ok(())
 }
 
@@ -131,7 +158,7 @@ const SUB: &str = r#"{"modules":{"m":{"ports":{
 #[test]
 fn sub_borrow(rt: HostRuntime) -> Result<(), Fail> {
     let stim = "cellift-stimulus 1\ncycles 1\n@ 0\nset a 0100 0000\nset b 0001 0001\n";
-    assert_shows(&rt, SUB, stim, "cycle 0\ny 0011/0111\ndone 1\n")?;
+    assert_shows(&rt, rt.alloc(), SUB, stim, "cycle 0\ny 0011/0111\ndone 1\n")?;
     Ok(())
 }
 
@@ -145,7 +172,13 @@ const SIGNED_LESS: &str = r#"{"modules":{"m":{"ports":{
 #[test]
 fn signed_less(rt: HostRuntime) -> Result<(), Fail> {
     let stim = "cellift-stimulus 1\ncycles 1\n@ 0\nset a 1000 1000\nset b 0000 0000\n";
-    assert_shows(&rt, SIGNED_LESS, stim, "cycle 0\ny 1/1\ndone 1\n")?;
+    assert_shows(
+        &rt,
+        rt.alloc(),
+        SIGNED_LESS,
+        stim,
+        "cycle 0\ny 1/1\ndone 1\n",
+    )?;
     Ok(())
 }
 
@@ -159,9 +192,21 @@ const SHIFT_LEFT: &str = r#"{"modules":{"m":{"ports":{
 #[test]
 fn shift_by_tainted_amount(rt: HostRuntime) -> Result<(), Fail> {
     let stim = "cellift-stimulus 1\ncycles 1\n@ 0\nset a 0000 0000\nset b 1 1\n";
-    assert_shows(&rt, SHIFT_LEFT, stim, "cycle 0\ny 0000/0000\ndone 1\n")?;
+    assert_shows(
+        &rt,
+        rt.alloc(),
+        SHIFT_LEFT,
+        stim,
+        "cycle 0\ny 0000/0000\ndone 1\n",
+    )?;
     let stim = "cellift-stimulus 1\ncycles 1\n@ 0\nset a 0001 0000\nset b 0 1\n";
-    assert_shows(&rt, SHIFT_LEFT, stim, "cycle 0\ny 0001/0011\ndone 1\n")?;
+    assert_shows(
+        &rt,
+        rt.alloc(),
+        SHIFT_LEFT,
+        stim,
+        "cycle 0\ny 0001/0011\ndone 1\n",
+    )?;
     Ok(())
 }
 
@@ -206,6 +251,7 @@ fn wide_add_half_tainted(rt: HostRuntime) -> Result<(), Fail> {
         "cellift-stimulus 1\ncycles 1\n@ 0\nset a 00000000000000000000000000000000000000000000000000000000000000000000000000000000000000000000000000000000000000000000000000000000 00000000000000000000000000000000000000000000000000000000000000001111111111111111111111111111111111111111111111111111111111111111\nset b 00000000000000000000000000000000000000000000000000000000000000000000000000000000000000000000000000000000000000000000000000000001 00000000000000000000000000000000000000000000000000000000000000000000000000000000000000000000000000000000000000000000000000000000\n";
     assert_shows(
         &rt,
+        rt.alloc(),
         WIDE_ADD,
         stim,
         "cycle 0\ny 00000000000000000000000000000000000000000000000000000000000000000000000000000000000000000000000000000000000000000000000000000001/00000000000000000000000000000000000000000000000000000000000000011111111111111111111111111111111111111111111111111111111111111111\ndone 1\n",
@@ -214,6 +260,7 @@ fn wide_add_half_tainted(rt: HostRuntime) -> Result<(), Fail> {
         "cellift-stimulus 1\ncycles 1\n@ 0\nset a 11111111111111111111111111111111111111111111111111111111111111111111111111111111111111111111111111111111111111111111111111111111 00000000000000000000000000000000000000000000000000000000000000000000000000000000000000000000000000000000000000000000000000000000\nset b 00000000000000000000000000000000000000000000000000000000000000000000000000000000000000000000000000000000000000000000000000000001 00000000000000000000000000000000000000000000000000000000000000000000000000000000000000000000000000000000000000000000000000000000\n";
     assert_shows(
         &rt,
+        rt.alloc(),
         WIDE_ADD,
         stim,
         "cycle 0\ny 00000000000000000000000000000000000000000000000000000000000000000000000000000000000000000000000000000000000000000000000000000000/00000000000000000000000000000000000000000000000000000000000000000000000000000000000000000000000000000000000000000000000000000000\ndone 1\n",
@@ -242,6 +289,7 @@ fn wide_shift(rt: HostRuntime) -> Result<(), Fail> {
         "cellift-stimulus 1\ncycles 1\n@ 0\nset a 0111111111111111111111111111111111111111111111111111111111111111 0111111111111111111111111111111111111111111111111111111111111111\nset b 000000 111111\n";
     assert_shows(
         &rt,
+        rt.alloc(),
         WIDE_SHIFT,
         stim,
         "cycle 0\ny 0111111111111111111111111111111111111111111111111111111111111111/0111111111111111111111111111111111111111111111111111111111111111\ndone 1\n",
