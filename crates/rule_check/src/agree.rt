@@ -1,7 +1,10 @@
 // Rules and enumeration, side by side.
-ghost use Rattle.std.specs.Prelude.{◌≡◌, ◌↔◌, true, length, map, IfOk, IsTrue};
+ghost use Rattle.std.specs.Prelude.{◌≡◌, ◌↔◌, true, List, length, map, IfOk, IsTrue};
+ghost use Rattle.cif_defs.specs.Words.{Word};
+ghost use Rattle.cif_defs.specs.Cells.{Cell as CellValue};
 ghost use Rattle.cif_defs.specs.Fitted.{IsFitted, operand_widths};
-ghost use Rattle.rule_check.specs.Rules.{has_rule};
+ghost use Rattle.cif_enumerate.specs.ExactWords.{exact_words};
+ghost use Rattle.rule_check.specs.Rules.{has_rule, taint_words};
 
 use crate::rules::taints_by_rule;
 use cif_bits::{Bits, NoMemory};
@@ -42,3 +45,10 @@ pub fn agrees(
     let exact = exact_taint(alloc, cell, values, taints)?;
     Ok(are_same(&by_rule, &exact))
 }
+
+/// A law without a body: what the rule of a cell gives is what trying every completion gives, for all operand words
+/// and all taints of theirs.
+pub fn rules_are_exact()
+    ensures { (cell : CellValue) (values taints : List Word) → has_rule cell.kind ≡ true
+        → exact_words cell values taints ≡ taint_words cell values taints }
+{}

@@ -19,5 +19,5 @@ mod rules;
 #[cfg(test)]
 mod tests;
 
-pub use agree::agrees;
+pub use agree::{agrees, rules_are_exact};
 pub use rules::{coarse_by_rule, has_rule, taints_by_rule};
