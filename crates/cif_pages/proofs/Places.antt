@@ -1,0 +1,165 @@
+-- Where an item of a list stands among its pages.
+use Rattle.std.proofs.Common.{◌≡◌, ℕ, zero, suc, ◌+◌, ◌-◌, ◌*◌, ◌/◌, ◌%◌, ◌<◌, ◌≤◌, List, [], ◌∷◌, ◌++◌, length, get_or, set, replicate, min, sym, ap, subst, ◌∙◌, arith, append_assoc, length-set}
+use Rattle.std.proofs.lemmas.List.{append-nil, length-append, get_or_append_left, get_or-append_right, set-append_left, set-append_right, replicate-append-replicate}
+use Rattle.std.proofs.lemmas.List.Concat.{flat_map-append}
+use Rattle.std.proofs.lemmas.Nat.{div-add-mod', mod_below}
+use Rattle.std.proofs.lemmas.Result.{on_ok_weaker}
+use Rattle.std.specs.Prelude.{Result, Ok, Err, OnOk, OnErr}
+use Rattle.cif_pages.specs.Pages.{joined, ArePages, AreFullPages}
+
+module _ {A : Type 0} (n : ℕ) where
+  -- an item past the first page stands among the others, and the first page is full
+  past : (x : List A) (xs : List (List A)) (q r : ℕ) → ArePages n (x ∷ xs) → suc q * n + r < length (x ++ joined xs)
+      → (length x ≡ n) × (q * n + r < length (joined xs))
+  past x [] q r h l =
+      let short : length x ≤ n = h.0 in
+      let long = length-append x [] in
+      absurd (omega arith)
+  past x (y ∷ ys) q r h l =
+      let whole : length x ≡ n = h.1 (omega arith) in
+      let long = length-append x (joined (y ∷ ys)) in
+      (whole, omega arith)
+
+  -- item `r` of page `q` is there
+  pub page_below : (pages : List (List A)) (q r : ℕ) → ArePages n pages → q * n + r < length (joined pages) → q < length pages
+  page_below [] q r h l = absurd (omega arith)
+  page_below (x ∷ xs) zero r h l = omega arith
+  page_below (x ∷ xs) (suc q) r h l =
+      let more : q < length xs = page_below xs q r h.2 (past x xs q r h l).1 in
+      omega arith
+
+  pub item_below : (pages : List (List A)) (q r : ℕ) (d : List A) → ArePages n pages → r < n → q * n + r < length (joined pages) → r < length (get_or pages q d)
+  item_below [] q r d h s l = absurd (omega arith)
+  item_below (x ∷ []) zero r d h s l = let all : 0 * n + r < length x = simp append-nil at l in omega arith
+  item_below (x ∷ y ∷ ys) zero r d h s l = let whole : length x ≡ n = h.1 (omega arith) in omega arith
+  item_below (x ∷ xs) (suc q) r d h s l = item_below xs q r d h.2 s (past x xs q r h l).1
+
+  pub item_of_page : (pages : List (List A)) (q r : ℕ) (d : List A) (e : A) → ArePages n pages → r < n → q * n + r < length (joined pages)
+      → get_or (joined pages) (q * n + r) e ≡ get_or (get_or pages q d) r e
+  item_of_page [] q r d e h s l = absurd (omega arith)
+  item_of_page (x ∷ xs) zero r d e h s l =
+      let there : r < length x = item_below (x ∷ xs) zero r d h s l in
+      ap (λ i. get_or (x ++ joined xs) i e) (omega arith) ∙ get_or_append_left x (joined xs) e r there
+  item_of_page (x ∷ xs) (suc q) r d e h s l =
+      let on = past x xs q r h l in
+      get_or-append_right x (joined xs) n (suc q * n + r) e on.0 (omega arith)
+      ∙ ap (λ i. get_or (joined xs) i e) (omega arith)
+      ∙ item_of_page xs q r d e h.2 s on.1
+
+  pub set_of_page : (pages : List (List A)) (q r : ℕ) (d : List A) (a : A) → ArePages n pages → r < n → q * n + r < length (joined pages)
+      → joined (set pages q (set (get_or pages q d) r a)) ≡ set (joined pages) (q * n + r) a
+  set_of_page [] q r d a h s l = absurd (omega arith)
+  set_of_page (x ∷ xs) zero r d a h s l =
+      let there : r < length x = item_below (x ∷ xs) zero r d h s l in
+      sym (ap (λ i. set (x ++ joined xs) i a) (omega arith) ∙ set-append_left x (joined xs) r a there)
+  set_of_page (x ∷ xs) (suc q) r d a h s l =
+      let on = past x xs q r h l in
+      ap (λ rest. x ++ rest) (set_of_page xs q r d a h.2 s on.1)
+      ∙ sym (set-append_right x (joined xs) n (suc q * n + r) a on.0 (omega arith)
+      ∙ ap (λ i. x ++ set (joined xs) i a) (omega arith))
+
+  pub ArePages-set : (pages : List (List A)) (q : ℕ) (d y : List A) → ArePages n pages → length y ≡ length (get_or pages q d) → ArePages n (set pages q y)
+  ArePages-set [] q d y h e = tt
+  ArePages-set (x ∷ xs) zero d y h e = (omega (arith, h.0), (λ more. e ∙ h.1 more), h.2)
+  ArePages-set (x ∷ xs) (suc q) d y h e =
+      let same = length-set xs q y in
+      (h.0, (λ more. h.1 (omega arith)), ArePages-set xs q d y h.2 e)
+
+  -- the same by the item's place in the list
+  pub page_of : (pages : List (List A)) (i : ℕ) → ArePages n pages → i < length (joined pages) → i / n < length pages
+  page_of pages i h l = page_below pages (i / n) (i % n) h (rw div-add-mod' l)
+
+  pub place_of : (pages : List (List A)) (i : ℕ) (d : List A) → 0 < n → ArePages n pages → i < length (joined pages) → i % n < length (get_or pages (i / n) d)
+  place_of pages i d p h l = item_below pages (i / n) (i % n) d h (mod_below i n p) (rw div-add-mod' l)
+
+  pub item_of : (pages : List (List A)) (i : ℕ) (d : List A) (e : A) → 0 < n → ArePages n pages → i < length (joined pages)
+      → get_or (joined pages) i e ≡ get_or (get_or pages (i / n) d) (i % n) e
+  item_of pages i d e p h l =
+      ap (λ k. get_or (joined pages) k e) (sym (div-add-mod' i n))
+      ∙ item_of_page pages (i / n) (i % n) d e h (mod_below i n p) (rw div-add-mod' l)
+
+  pub set_of : (pages : List (List A)) (i : ℕ) (d : List A) (a : A) → 0 < n → ArePages n pages → i < length (joined pages)
+      → joined (set pages (i / n) (set (get_or pages (i / n) d) (i % n) a)) ≡ set (joined pages) i a
+  set_of pages i d a p h l =
+      set_of_page pages (i / n) (i % n) d a h (mod_below i n p) (rw div-add-mod' l)
+      ∙ ap (λ k. set (joined pages) k a) (div-add-mod' i n)
+
+  -- one page more behind full ones
+  pub ArePages-push : (pages : List (List A)) (x : List A) → AreFullPages n pages → length x ≤ n → ArePages n (pages ++ x ∷ [])
+  ArePages-push [] x h s = (s, (λ more. absurd (omega arith)), tt)
+  ArePages-push (y ∷ ys) x h s = (omega (arith, h.0), (λ _. h.0), ArePages-push ys x h.1 s)
+
+  pub AreFullPages-push : (pages : List (List A)) (x : List A) → AreFullPages n pages → length x ≡ n → AreFullPages n (pages ++ x ∷ [])
+  AreFullPages-push [] x h s = (s, tt)
+  AreFullPages-push (y ∷ ys) x h s = (h.0, AreFullPages-push ys x h.1 s)
+
+  pub ArePages-from_full : (pages : List (List A)) → AreFullPages n pages → ArePages n pages
+  ArePages-from_full [] h = tt
+  ArePages-from_full (x ∷ xs) h = (omega (arith, h.0), (λ _. h.0), ArePages-from_full xs h.1)
+
+  -- what a write into a page makes of the list, and of the pages
+  pub written : {U E : Type 0} (r : Result U E) (pages : List (List A)) (i : ℕ) (d after : List A) (a : A) → 0 < n → ArePages n pages → i < length (joined pages)
+      → OnOk r (after ≡ set (get_or pages (i / n) d) (i % n) a) → OnOk r (joined (set pages (i / n) after) ≡ set (joined pages) i a)
+  written r pages i d after a p h l =
+      on_ok_weaker r (λ done. ap (λ y. joined (set pages (i / n) y)) done ∙ set_of pages i d a p h l)
+
+  pub written_pages : {U E : Type 0} (r : Result U E) (pages : List (List A)) (i : ℕ) (d after : List A) (a : A) → ArePages n pages
+      → OnOk r (after ≡ set (get_or pages (i / n) d) (i % n) a) → OnErr r (after ≡ get_or pages (i / n) d) → ArePages n (set pages (i / n) after)
+  written_pages (Ok u) pages i d after a h done failed =
+      ArePages-set pages (i / n) d after h (ap length done ∙ length-set (get_or pages (i / n) d) (i % n) a)
+  written_pages (Err e) pages i d after a h done failed = ArePages-set pages (i / n) d after h (ap length failed)
+
+  -- the same for a page that was read
+  pub place_in : (pages : List (List A)) (i : ℕ) (page : List A) → 0 < n → ArePages n pages → i < length (joined pages)
+      → page ≡ get_or pages (i / n) page → i % n < length page
+  place_in pages i page p h l here = let P : List A → Type 0 = λ y. i % n < length y in subst P (sym here) (place_of pages i page p h l)
+
+  pub item_in : (pages : List (List A)) (i : ℕ) (page : List A) (e : A) → 0 < n → ArePages n pages → i < length (joined pages)
+      → page ≡ get_or pages (i / n) page → get_or (joined pages) i e ≡ get_or page (i % n) e
+  item_in pages i page e p h l here = item_of pages i page e p h l ∙ ap (λ y. get_or y (i % n) e) (sym here)
+
+  -- `count` pages that are all one page
+  pub AreFullPages-replicate : (count : ℕ) (page : List A) → length page ≡ n → AreFullPages n (replicate count page)
+  AreFullPages-replicate zero page e = tt
+  AreFullPages-replicate (suc count) page e = (e, AreFullPages-replicate count page e)
+
+-- a page put behind others
+pub joined-push : {A : Type 0} (pages : List (List A)) (x : List A) → joined (pages ++ x ∷ []) ≡ joined pages ++ x
+joined-push pages x = flat_map-append (λ page. page) pages (x ∷ []) ∙ ap (λ last. joined pages ++ last) (append-nil x)
+
+-- `count` pages of `n` items that are all one item
+pub joined-replicate : {A : Type 0} (n count : ℕ) (a : A) → joined (replicate count (replicate n a)) ≡ replicate (count * n) a
+joined-replicate n zero a = let none : 0 ≡ 0 * n = omega arith in ap (λ k. replicate k a) none
+joined-replicate n (suc count) a =
+    let more : n + count * n ≡ suc count * n = omega arith in
+    ap (λ rest. replicate n a ++ rest) (joined-replicate n count a)
+    ∙ replicate-append-replicate n (count * n) a
+    ∙ ap (λ k. replicate k a) more
+
+-- full pages of one item, with no rest
+pub filled_whole : {A : Type 0} (n long : ℕ) (pages : List (List A)) (a : A) → joined pages ≡ replicate (long / n * n) a → long % n ≤ 0
+    → joined pages ≡ replicate long a
+filled_whole n long pages a e none =
+    let all = div-add-mod' long n in
+    let same : long / n * n ≡ long = omega arith in
+    e ∙ ap (λ k. replicate k a) same
+
+-- full pages of one item, and a page of the rest behind them
+pub filled_rest : {A : Type 0} (n long : ℕ) (pages after : List (List A)) (last : List A) (a : A) → joined pages ≡ replicate (long / n * n) a
+    → after ≡ pages ++ last ∷ [] → last ≡ replicate (long % n) a → joined after ≡ replicate long a
+filled_rest n long pages after last a e pushed rest =
+    ap joined pushed ∙ joined-push pages last
+    ∙ ap (λ front. front ++ last) e
+    ∙ ap (λ back. replicate (long / n * n) a ++ back) rest
+    ∙ replicate-append-replicate (long / n * n) (long % n) a
+    ∙ ap (λ k. replicate k a) (div-add-mod' long n)
+
+-- a piece cut off the front of the rest, and put as a page behind the others
+pub next_words : {A : Type 0} (pages after : List (List A)) (piece rest left words : List A) → after ≡ pages ++ piece ∷ [] → rest ≡ piece ++ left
+    → joined pages ++ rest ≡ words → joined after ++ left ≡ words
+next_words pages after piece rest left words pushed cut so_far =
+    ap (λ y. joined y ++ left) pushed
+    ∙ ap (λ front. front ++ left) (joined-push pages piece)
+    ∙ append_assoc (joined pages) piece left
+    ∙ ap (λ back. joined pages ++ back) (sym cut)
+    ∙ so_far
