@@ -84,19 +84,6 @@ module _ {A : Type 0} (n : ℕ) where
       set_of_page pages (i / n) (i % n) d a h (mod_below i n p) (rw div-add-mod' l)
       ∙ ap (λ k. set (joined pages) k a) (div-add-mod' i n)
 
-  -- one page more behind full ones
-  pub ArePages-push : (pages : List (List A)) (x : List A) → AreFullPages n pages → length x ≤ n → ArePages n (pages ++ x ∷ [])
-  ArePages-push [] x h s = (s, (λ more. absurd (omega arith)), tt)
-  ArePages-push (y ∷ ys) x h s = (omega (arith, h.0), (λ _. h.0), ArePages-push ys x h.1 s)
-
-  pub AreFullPages-push : (pages : List (List A)) (x : List A) → AreFullPages n pages → length x ≡ n → AreFullPages n (pages ++ x ∷ [])
-  AreFullPages-push [] x h s = (s, tt)
-  AreFullPages-push (y ∷ ys) x h s = (h.0, AreFullPages-push ys x h.1 s)
-
-  pub ArePages-from_full : (pages : List (List A)) → AreFullPages n pages → ArePages n pages
-  ArePages-from_full [] h = tt
-  ArePages-from_full (x ∷ xs) h = (omega (arith, h.0), (λ _. h.0), ArePages-from_full xs h.1)
-
   -- what a write into a page makes of the list, and of the pages
   pub written : {U E : Type 0} (r : Result U E) (pages : List (List A)) (i : ℕ) (d after : List A) (a : A) → 0 < n → ArePages n pages → i < length (joined pages)
       → OnOk r (after ≡ set (get_or pages (i / n) d) (i % n) a) → OnOk r (joined (set pages (i / n) after) ≡ set (joined pages) i a)
@@ -117,49 +104,3 @@ module _ {A : Type 0} (n : ℕ) where
   pub item_in : (pages : List (List A)) (i : ℕ) (page : List A) (e : A) → 0 < n → ArePages n pages → i < length (joined pages)
       → page ≡ get_or pages (i / n) page → get_or (joined pages) i e ≡ get_or page (i % n) e
   item_in pages i page e p h l here = item_of pages i page e p h l ∙ ap (λ y. get_or y (i % n) e) (sym here)
-
-  -- `count` pages that are all one page
-  pub AreFullPages-replicate : (count : ℕ) (page : List A) → length page ≡ n → AreFullPages n (replicate count page)
-  AreFullPages-replicate zero page e = tt
-  AreFullPages-replicate (suc count) page e = (e, AreFullPages-replicate count page e)
-
--- a page put behind others
-pub joined-push : {A : Type 0} (pages : List (List A)) (x : List A) → joined (pages ++ x ∷ []) ≡ joined pages ++ x
-joined-push pages x = flat_map-append (λ page. page) pages (x ∷ []) ∙ ap (λ last. joined pages ++ last) (append-nil x)
-
--- `count` pages of `n` items that are all one item
-pub joined-replicate : {A : Type 0} (n count : ℕ) (a : A) → joined (replicate count (replicate n a)) ≡ replicate (count * n) a
-joined-replicate n zero a = let none : 0 ≡ 0 * n = omega arith in ap (λ k. replicate k a) none
-joined-replicate n (suc count) a =
-    let more : n + count * n ≡ suc count * n = omega arith in
-    ap (λ rest. replicate n a ++ rest) (joined-replicate n count a)
-    ∙ replicate-append-replicate n (count * n) a
-    ∙ ap (λ k. replicate k a) more
-
--- full pages of one item, with no rest
-pub filled_whole : {A : Type 0} (n long : ℕ) (pages : List (List A)) (a : A) → joined pages ≡ replicate (long / n * n) a → long % n ≤ 0
-    → joined pages ≡ replicate long a
-filled_whole n long pages a e none =
-    let all = div-add-mod' long n in
-    let same : long / n * n ≡ long = omega arith in
-    e ∙ ap (λ k. replicate k a) same
-
--- full pages of one item, and a page of the rest behind them
-pub filled_rest : {A : Type 0} (n long : ℕ) (pages after : List (List A)) (last : List A) (a : A) → joined pages ≡ replicate (long / n * n) a
-    → after ≡ pages ++ last ∷ [] → last ≡ replicate (long % n) a → joined after ≡ replicate long a
-filled_rest n long pages after last a e pushed rest =
-    ap joined pushed ∙ joined-push pages last
-    ∙ ap (λ front. front ++ last) e
-    ∙ ap (λ back. replicate (long / n * n) a ++ back) rest
-    ∙ replicate-append-replicate (long / n * n) (long % n) a
-    ∙ ap (λ k. replicate k a) (div-add-mod' long n)
-
--- a piece cut off the front of the rest, and put as a page behind the others
-pub next_words : {A : Type 0} (pages after : List (List A)) (piece rest left words : List A) → after ≡ pages ++ piece ∷ [] → rest ≡ piece ++ left
-    → joined pages ++ rest ≡ words → joined after ++ left ≡ words
-next_words pages after piece rest left words pushed cut so_far =
-    ap (λ y. joined y ++ left) pushed
-    ∙ ap (λ front. front ++ left) (joined-push pages piece)
-    ∙ append_assoc (joined pages) piece left
-    ∙ ap (λ back. joined pages ++ back) (sym cut)
-    ∙ so_far

@@ -3,7 +3,7 @@
 ghost use Rattle.std.specs.Prelude.{◌≡◌, ◌<◌, length, get_or, replicate, slice_set, IfOk, OnOk, OnErr};
 
 use cif_bits::NoMemory;
-use std::alloc::Global;
+use std::alloc::{AllocError, Global};
 use std::marker::Model;
 use std::sync::Arc;
 
@@ -22,6 +22,18 @@ impl<T> Model for Page<T> {
     ghost Value = { List T };
 
     ghost view = { λ p. p.words.value.items };
+}
+
+/// A clone is one more handle on the same words.
+impl<T: Copy> Clone for Page<T> {
+    ghost use Rattle.std.specs.Prelude.{◌≡◌};
+
+    ghost is_clone = { λ p q. q ≡ p };
+
+    fn clone(&self) -> Result<Page<T>, AllocError> {
+        let words = Arc::try_clone(&self.words)?;
+        Ok(Page { words })
+    }
 }
 
 impl<T: Copy> Page<T> {
@@ -52,14 +64,6 @@ impl<T: Copy> Page<T> {
         ensures { (d : T) → get_or self.now index d ≡ result }
     {
         self.words[index]
-    }
-
-    /// One more handle on this page.
-    pub fn share(&self) -> Result<Page<T>, NoMemory>
-        ensures { IfOk result (λ p. p ≡ self.now) }
-    {
-        let words = Arc::try_clone(&self.words)?;
-        Ok(Page { words })
     }
 
     /// Writes a word: in place where no one else has this page, else into a copy of it.

@@ -30,21 +30,6 @@ impl<T> Model for Paged<T> {
     ghost invariant = { λ p. ArePages SHELF p.shelves.value.items × (length (joined p.shelves.value.items) ≡ p.len) };
 }
 
-/// `count` more handles on a shelf.
-fn copies_of<T: Copy>(
-    alloc: Global,
-    shelf: &Shelf<T>,
-    count: usize,
-) -> Result<Vec<Shelf<T>>, NoMemory>
-    ensures { IfOk result (λ v. v.items ≡ replicate count shelf.now) }
-{
-    let mut shelves = Vec::with_capacity(alloc, count)?;
-    for _place in 0..count {
-        shelves.push(shelf.share()?)?;
-    }
-    Ok(shelves)
-}
-
 /// `count` shelves of `size` words `word`, which all are one shelf.
 fn equal_shelves<T: Copy>(
     alloc: Global,
@@ -59,7 +44,7 @@ fn equal_shelves<T: Copy>(
         return Ok(Vec::new(alloc));
     }
     let shelf = Shelf::filled(alloc, size, word)?;
-    copies_of(alloc, &shelf, count)
+    Ok(vec![in alloc; shelf; count]?)
 }
 
 /// The shelves of a list of `length` words `word`.
@@ -89,20 +74,6 @@ fn shelves_of<T: Copy>(alloc: Global, words: &[T]) -> Result<Vec<Shelf<T>>, NoMe
         shelves.push(Shelf::of(alloc, piece)?)?;
     }
     Ok(shelves)
-}
-
-/// One more handle on each shelf.
-fn shared_shelves<T: Copy>(
-    alloc: Global,
-    shelves: &[Shelf<T>],
-) -> Result<Vec<Shelf<T>>, NoMemory>
-    ensures { IfOk result (λ v. v.items ≡ shelves.now) }
-{
-    let mut handles = Vec::with_capacity(alloc, shelves.len())?;
-    for shelf in shelves {
-        handles.push(shelf.share()?)?;
-    }
-    Ok(handles)
 }
 
 /// The word at a place, which is in shelf `index / SHELF`.
@@ -194,7 +165,7 @@ impl<T: Copy> Paged<T> {
         if let Some(shelves) = Arc::get_mut(&mut self.shelves) {
             return set_in_shelves(alloc, shelves, index as usize, word);
         }
-        let mut shelves = shared_shelves(alloc, &self.shelves)?;
+        let mut shelves = Vec::from_clones(alloc, &self.shelves)?;
         set_in_shelves(alloc, &mut shelves, index as usize, word)?;
         self.shelves = Arc::new(alloc, shelves)?;
         Ok(())

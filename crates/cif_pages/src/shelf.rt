@@ -5,7 +5,7 @@ ghost use Rattle.cif_pages.specs.Pages.{joined, ArePages, AreFullPages};
 
 use crate::page::{PAGE, Page};
 use cif_bits::NoMemory;
-use std::alloc::Global;
+use std::alloc::{AllocError, Global};
 use std::marker::Model;
 use std::sync::Arc;
 
@@ -30,21 +30,6 @@ impl<T> Model for Shelf<T> {
     ghost invariant = { λ s. ArePages PAGE s.pages.value.items };
 }
 
-/// `count` more handles on a page.
-fn copies_of<T: Copy>(
-    alloc: Global,
-    page: &Page<T>,
-    count: usize,
-) -> Result<Vec<Page<T>>, NoMemory>
-    ensures { IfOk result (λ v. v.items ≡ replicate count page.now) }
-{
-    let mut pages = Vec::with_capacity(alloc, count)?;
-    for _place in 0..count {
-        pages.push(page.share()?)?;
-    }
-    Ok(pages)
-}
-
 /// `count` pages of `size` words `word`, which all are one page.
 fn equal_pages<T: Copy>(
     alloc: Global,
@@ -59,7 +44,7 @@ fn equal_pages<T: Copy>(
         return Ok(Vec::new(alloc));
     }
     let page = Page::filled(alloc, size, word)?;
-    copies_of(alloc, &page, count)
+    Ok(vec![in alloc; page; count]?)
 }
 
 /// The pages of a list of `length` words `word`.
@@ -87,17 +72,6 @@ fn pages_of<T: Copy>(alloc: Global, words: &[T]) -> Result<Vec<Page<T>>, NoMemor
     Ok(pages)
 }
 
-/// One more handle on each page.
-fn shared_pages<T: Copy>(alloc: Global, pages: &[Page<T>]) -> Result<Vec<Page<T>>, NoMemory>
-    ensures { IfOk result (λ v. v.items ≡ pages.now) }
-{
-    let mut handles = Vec::with_capacity(alloc, pages.len())?;
-    for page in pages {
-        handles.push(page.share()?)?;
-    }
-    Ok(handles)
-}
-
 /// The word at a place, which is in page `index / PAGE`.
 fn get_in_pages<T: Copy>(pages: &[Page<T>], index: usize) -> T
     requires pages { ArePages PAGE pages.now }
@@ -121,6 +95,18 @@ fn set_in_pages<T: Copy>(
     ensures err { OnErr result (pages.new ≡ pages.old) }
 {
     pages[index / PAGE].set(alloc, index % PAGE, word)
+}
+
+/// A clone is one more handle on the same pages.
+impl<T: Copy> Clone for Shelf<T> {
+    ghost use Rattle.std.specs.Prelude.{◌≡◌};
+
+    ghost is_clone = { λ s r. r ≡ s };
+
+    fn clone(&self) -> Result<Shelf<T>, AllocError> {
+        let pages = Arc::try_clone(&self.pages)?;
+        Ok(Shelf { pages })
+    }
 }
 
 impl<T: Copy> Shelf<T> {
@@ -150,14 +136,6 @@ impl<T: Copy> Shelf<T> {
         get_in_pages(&self.pages, index)
     }
 
-    /// One more handle on this shelf.
-    pub fn share(&self) -> Result<Shelf<T>, NoMemory>
-        ensures { IfOk result (λ s. s ≡ self.now) }
-    {
-        let pages = Arc::try_clone(&self.pages)?;
-        Ok(Shelf { pages })
-    }
-
     /// Writes a word. Where someone else has this shelf, its table is copied first: at most 128
     /// handles. So is the page, where someone else has it.
     pub fn set(&mut self, alloc: Global, index: usize, word: T) -> Result<(), NoMemory>
@@ -168,7 +146,7 @@ impl<T: Copy> Shelf<T> {
         if let Some(pages) = Arc::get_mut(&mut self.pages) {
             return set_in_pages(alloc, pages, index, word);
         }
-        let mut pages = shared_pages(alloc, &self.pages)?;
+        let mut pages = Vec::from_clones(alloc, &self.pages)?;
         set_in_pages(alloc, &mut pages, index, word)?;
         self.pages = Arc::new(alloc, pages)?;
         Ok(())

@@ -1,26 +1,18 @@
-use Rattle.std.proofs.Common.{◌≡◌, ◌∙◌, ◌++◌, ◌∷◌, [], ◌+◌, length, ap, arith}
-use Rattle.std.proofs.lemmas.List.{length-append}
-use Rattle.std.specs.Slice.Iter.{chunks_rest}
-use Rattle.cif_pages.proofs.Places.{AreFullPages-push, ArePages-push, next_words}
+use Rattle.std.proofs.Common.{◌∙◌}
+use Rattle.std.specs.Slice.Iter.{chunks_rest, chunks_size}
+use Rattle.cif_pages.proofs.Cuts.{next_piece}
 use Rattle.cif_pages.proofs.paged.shelves_of.Goals as goal
 
 pub loop-piece-preserved : goal.loop-piece-preserved
 loop-piece-preserved g c =
-    let before = c.loop-piece.shelves.items in
-    let piece = c.in-Some.piece.now in
-    let rest = chunks_rest c.loop-piece.piece-iterator in
-    let left = chunks_rest c.next.new.self in
     let so_far = c.loop-piece.invariant in
     let step = c.in-Some.ensures.steps in
-    let full = so_far.full step.1.2 in
-    let pushed : c.push.new.self.items ≡ before ++ piece ∷ [] =
-        c.in_ok-push.ensures.items ∙ ap (λ page. before ++ page ∷ []) c.in_ok-of.ensures in
-    let size = so_far.size in
-    let cut : length rest ≡ length piece + length left = ap length step.1.0 ∙ length-append piece left in
-    let short = step.1.1 in
+    let next = next_piece 131072 (chunks_size c.loop-piece.piece-iterator) c.loop-piece.shelves.items c.push.new.self.items
+        c.in_ok-of.field-0 c.in-Some.piece.now (chunks_rest c.loop-piece.piece-iterator) (chunks_rest c.next.new.self) c.args.words.now
+        so_far.size c.in_ok-push.ensures.items c.in_ok-of.ensures step.1.0 step.1.1 (so_far.full step.1.2) so_far.words in
     record {
-      words = next_words before c.push.new.self.items piece rest left c.args.words.now pushed step.1.0 so_far.words;
-      pages = rw pushed (ArePages-push 131072 before piece full (omega arith));
-      full = λ more. rw pushed (AreFullPages-push 131072 before piece full (omega arith));
-      size = step.0 ∙ size;
+      words = next.0;
+      shelves = next.1;
+      full = next.2;
+      size = step.0 ∙ so_far.size;
     }

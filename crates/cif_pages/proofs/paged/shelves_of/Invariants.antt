@@ -7,7 +7,7 @@ use Rattle.cif_pages.proofs.paged.shelves_of.Given as goal
 abbrev pub invariant-loop-piece : goal.invariant-loop-piece
 invariant-loop-piece g l = record {
   words : joined l.shelves.items ++ chunks_rest l.piece-iterator ≡ l.words;
-  pages : ArePages 131072 l.shelves.items;
+  shelves : ArePages 131072 l.shelves.items;
   full : 0 < length (chunks_rest l.piece-iterator) → AreFullPages 131072 l.shelves.items;
   size : chunks_size l.piece-iterator ≡ 131072;
 }
