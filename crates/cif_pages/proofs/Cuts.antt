@@ -90,7 +90,8 @@ pub next_piece : {A : Type 0} (n size : ℕ) (pages after : List (List A)) (page
     → (joined after ++ left ≡ words) × ArePages n after × (0 < length left → AreFullPages n after)
 next_piece n size pages after page piece rest left words is pushed copied cut long full so_far =
     let behind : after ≡ pages ++ piece ∷ [] = pushed ∙ ap (λ y. pages ++ y ∷ []) copied in
-    let parts : length rest ≡ length piece + length left = ap length cut ∙ length-append piece left in
-    ( next_words pages after piece rest left words behind cut so_far,
+    let parts : length rest ≡ length piece + length left = ap length cut ∙ length-append piece left in (
+      next_words pages after piece rest left words behind cut so_far,
       rw behind (ArePages-push n pages piece full (omega arith)),
-      (λ more. rw behind (AreFullPages-push n pages piece full (omega arith))) )
+      (λ more. rw behind (AreFullPages-push n pages piece full (omega arith))),
+    )

@@ -11,5 +11,7 @@
 mod page;
 mod paged;
 mod shelf;
+#[cfg(test)]
+mod tests;
 
 pub use paged::Paged;

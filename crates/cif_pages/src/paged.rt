@@ -48,11 +48,7 @@ fn equal_shelves<T: Copy>(
 }
 
 /// The shelves of a list of `length` words `word`.
-fn filled_shelves<T: Copy>(
-    alloc: Global,
-    length: usize,
-    word: T,
-) -> Result<Vec<Shelf<T>>, NoMemory>
+fn filled_shelves<T: Copy>(alloc: Global, length: usize, word: T) -> Result<Vec<Shelf<T>>, NoMemory>
     ensures words { IfOk result (λ v. joined v.items ≡ replicate length word) }
     ensures shelves { IfOk result (λ v. ArePages SHELF v.items) }
 {
