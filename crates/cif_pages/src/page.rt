@@ -76,9 +76,9 @@ impl<T: Copy> Page<T> {
             words[index] = word;
             return Ok(());
         }
-        let mut words = Vec::from_slice(alloc, &self.words)?;
-        words[index] = word;
-        self.words = Arc::new(alloc, words)?;
+        let mut copy = Vec::from_slice(alloc, &self.words)?;
+        copy[index] = word;
+        self.words = Arc::new(alloc, copy)?;
         Ok(())
     }
 }

@@ -133,7 +133,8 @@ impl<T: Copy> Paged<T> {
     /// The word at a place, counted from 0. The time that it takes doesn't depend on the length.
     pub fn get(&self, index: u32) -> T
         requires { index < length self.now }
-        ensures { (d : T) → get_or self.now index d ≡ result }
+        ensures lookup { result ≡ get_or self.now index result }
+        ensures item { (d : T) → get_or self.now index d ≡ result }
     {
         get_in_shelves(&self.shelves, index as usize)
     }
@@ -161,9 +162,9 @@ impl<T: Copy> Paged<T> {
         if let Some(shelves) = Arc::get_mut(&mut self.shelves) {
             return set_in_shelves(alloc, shelves, index as usize, word);
         }
-        let mut shelves = Vec::from_clones(alloc, &self.shelves)?;
-        set_in_shelves(alloc, &mut shelves, index as usize, word)?;
-        self.shelves = Arc::new(alloc, shelves)?;
+        let mut copy = Vec::from_clones(alloc, &self.shelves)?;
+        set_in_shelves(alloc, &mut copy, index as usize, word)?;
+        self.shelves = Arc::new(alloc, copy)?;
         Ok(())
     }
 }

@@ -146,9 +146,9 @@ impl<T: Copy> Shelf<T> {
         if let Some(pages) = Arc::get_mut(&mut self.pages) {
             return set_in_pages(alloc, pages, index, word);
         }
-        let mut pages = Vec::from_clones(alloc, &self.pages)?;
-        set_in_pages(alloc, &mut pages, index, word)?;
-        self.pages = Arc::new(alloc, pages)?;
+        let mut copy = Vec::from_clones(alloc, &self.pages)?;
+        set_in_pages(alloc, &mut copy, index, word)?;
+        self.pages = Arc::new(alloc, copy)?;
         Ok(())
     }
 }

@@ -1,4 +1,4 @@
-use Rattle.std.proofs.Common.{◌≡◌, ◌∙◌, ap, arith}
+use Rattle.std.proofs.Common.{◌∙◌, ap, arith}
 use Rattle.cif_pages.specs.Pages.{joined}
 use Rattle.cif_pages.proofs.Cuts.{filled_whole, filled_rest, filled_pages, ArePages-from_full}
 use Rattle.cif_pages.proofs.shelf.filled_pages.Goals as goal
