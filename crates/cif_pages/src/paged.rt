@@ -140,7 +140,7 @@ impl<T: Copy> Paged<T> {
     }
 
     /// Another list of the same words, which shares all pages with this one: one more handle, whatever
-    /// the length.
+    /// the length. It allocates nothing, so `NoMemory` comes only where the count of handles is full.
     pub fn share(&self, _alloc: Global) -> Result<Paged<T>, NoMemory>
         ensures { IfOk result (λ p. p ≡ self.now) }
     {
@@ -151,9 +151,11 @@ impl<T: Copy> Paged<T> {
         })
     }
 
-    /// Writes a word to a place, counted from 0: in place where no other list shares the page, else
-    /// into a copy of it. That copies at most the page, and two tables of handles: 128 pages of a
-    /// shelf, and the shelves, which are one for 131,072 words.
+    /// Writes a word to a place, counted from 0: where it stands if no other list shares the page, else
+    /// into a copy of the page. `NoMemory` leaves the list as it was.
+    ///
+    /// At most it copies one page and two tables of handles: the 128 pages of a shelf, and the shelves,
+    /// of which a list has one for each 131,072 words.
     pub fn set(&mut self, alloc: Global, index: u32, word: T) -> Result<(), NoMemory>
         requires { index < length self.old }
         ensures ok { OnOk result (self.new ≡ slice_set self.old index word) }
