@@ -1,0 +1,9 @@
+pub mod Words
+pub mod BitChoices
+pub mod Columns
+pub mod RegisterBits
+pub mod MarkValues
+pub mod RegisterRows
+pub mod RegisterLaws
+pub mod MemoryWords
+pub mod MemoryLaws
