@@ -3,7 +3,6 @@ use Rattle.std.specs.Prelude.{◌≡◌, Bool, true, false, not, ◌&&◌, ◌||
 use Rattle.std.proofs.Common.{sym, ap, ◌∙◌}
 use Rattle.cif_defs.specs.Words.{xor}
 use Rattle.cif_defs.specs.Completions.{some_bit}
-use Rattle.rule_state.specs.Marks.{choice_taint}
 
 -- ---- disjunctions
 
@@ -60,6 +59,10 @@ some_swap false v true w k = refl
 some_swap false v false w k = refl
 
 -- ---- a choice
+
+-- the taint of y where c is 1, else of x, each with its taint: where c is tainted, that of both and of their difference
+abbrev pub choice_taint : Bool → Bool → Bool → Bool → Bool → Bool → Bool
+choice_taint x tx y ty c tc = if tc then tx || ty || xor x y else (if c then ty else tx)
 
 absorb_left : (a b : Bool) → ((a || b) || a) ≡ (a || b)
 absorb_left true b = refl

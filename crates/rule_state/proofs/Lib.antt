@@ -5,5 +5,6 @@ pub mod RegisterBits
 pub mod MarkValues
 pub mod RegisterRows
 pub mod RegisterLaws
+pub mod RegisterCells
 pub mod MemoryWords
 pub mod MemoryLaws

@@ -11,8 +11,8 @@ use Rattle.cif_term.specs.Formulas.{Formula, Value, Taint, Const, Bound, One, Tw
 use Rattle.cif_term.proofs.Forms.{formed_bound, formed_choose, formed_const, formed_let, formed_one, formed_taint, formed_two, formed_value, pieces_narrow, raised}
 use Rattle.cif_term.proofs.Values.{value-choose, value-or, value-xor}
 use Rattle.rule_state.proofs.Words.{word_of_bits}
-use Rattle.rule_state.specs.Marks.{Marked, choice_taint, chosen_mark, control_mark, fixed_mark, operand_mark}
-use Rattle.rule_state.proofs.BitChoices.{depends}
+use Rattle.rule_state.specs.Marks.{Marked, chosen_mark, control_mark, fixed_mark, operand_mark}
+use Rattle.rule_state.proofs.BitChoices.{choice_taint, depends}
 
 -- ---- words of n bits, with their bits and the taints of these
 

@@ -4,8 +4,7 @@ use Rattle.std.proofs.Common.{ap, ◌∙◌}
 use Rattle.cif_defs.specs.Completions.{some_bit}
 use Rattle.cif_defs.specs.Words.{bit}
 use Rattle.cif_defs.proofs.Exact.{bits_can_differ, some_bits}
-use Rattle.rule_state.specs.Marks.{choice_taint}
-use Rattle.rule_state.proofs.BitChoices.{both_bits, depends, some_chosen, some_constant, some_same, some_swap}
+use Rattle.rule_state.proofs.BitChoices.{choice_taint, both_bits, depends, some_chosen, some_constant, some_same, some_swap}
 
 -- ---- an enable, and a reset: a and r say which bits of them are active, and v is a bit of the reset value
 

@@ -1,13 +1,9 @@
 -- Words with their taints, as formulas, and the choice between two of them by a control.
-use Rattle.std.specs.Prelude.{ℕ, ◌==◌, nat_le, Bool, ◌||◌, if◌then◌else◌}
-use Rattle.cif_defs.specs.Words.{Word, bit, word, xor, zeros}
+use Rattle.std.specs.Prelude.{ℕ, ◌==◌, nat_le, if◌then◌else◌}
+use Rattle.cif_defs.specs.Words.{Word, bit, word, zeros}
 use Rattle.cif_term.specs.declared.ops.Op1.TheVariants.{Not}
 use Rattle.cif_term.specs.declared.ops.Op2.TheVariants.{Or, Xor}
 use Rattle.cif_term.specs.Formulas.{Formula, Value, Taint, Const, Bound, One, Two, Choose, Let}
-
--- the taint of y where c is 1, else of x, each with its taint: where c is tainted, that of both and of their difference
-abbrev pub choice_taint : Bool → Bool → Bool → Bool → Bool → Bool → Bool
-choice_taint x tx y ty c tc = if tc then tx || ty || xor x y else (if c then ty else tx)
 
 pub record Marked : Type 0 where
   pub value : Formula

@@ -7,7 +7,7 @@ use Rattle.cif_defs.specs.declared.kinds.Param.{Param}
 use Rattle.cif_defs.specs.declared.kinds.Param.TheVariants.{EnPolarity, SrstPolarity, SrstValue, ArstPolarity, ArstValue}
 use Rattle.rule_state.specs.Marks.{Marked, operand_mark, fixed_mark, control_mark, chosen_mark}
 
--- the word at D, which is operand 0, where the enable at operand 1 is active, else the stored word
+-- d where the enable at operand 1 is active, else the stored word
 abbrev pub enabled_mark : Cell → Marked → ℕ → Marked
 enabled_mark c d stored = chosen_mark (control_mark (number_of c EnPolarity) 1) (operand_mark stored) d
 

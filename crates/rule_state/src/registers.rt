@@ -179,7 +179,8 @@ fn shown_term(alloc: Global, cell: &Cell) -> Result<Term, NoMemory>
     requires { width_of cell.now ≤ 4096 }
     ensures { IfOk result (λ t. formula_of t ≡ (shown_mark cell.now).taint) }
 {
-    reset_taint(alloc, cell, Reset::asynchronous(0), MarkedTerm::operand(1))
+    let stored = MarkedTerm::operand(1);
+    reset_taint(alloc, cell, Reset::asynchronous(0), stored)
 }
 
 /// The taint of what a register stores next. The stored word is the operand after the last.
