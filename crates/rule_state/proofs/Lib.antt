@@ -1,0 +1,10 @@
+pub mod Words
+pub mod BitChoices
+pub mod Columns
+pub mod RegisterBits
+pub mod MarkValues
+pub mod RegisterRows
+pub mod RegisterLaws
+pub mod RegisterCells
+pub mod MemoryWords
+pub mod MemoryLaws

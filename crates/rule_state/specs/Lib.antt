@@ -1,0 +1,5 @@
+pub mod Marks
+pub mod MarkView
+pub mod RegisterTerms
+pub mod RegisterTaints
+pub mod MemoryTaints
