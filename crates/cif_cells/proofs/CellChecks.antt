@@ -4,7 +4,7 @@ use Rattle.std.proofs.Common.{arith, ap, refl, sym, ◌∙◌, lit≤, lit<}
 use Rattle.std.proofs.lemmas.Bool.{ltb-false, eqb-true, not-false}
 use Rattle.std.proofs.lemmas.List.Sums.{sum_by_more, sum-map}
 use Rattle.std.proofs.Math.Nat.{mul-le-mul_right}
-use Rattle.cif_defs.specs.Table.{kind_of, is_built, operands_of, outputs_of, clocks_of, ports_of, width_limit, shift_limit, shiftx_limit, joined_at, lut_limit}
+use Rattle.cif_defs.specs.Table.{kind_of, operands_of, outputs_of, clocks_of, ports_of, width_limit, shift_limit, shiftx_limit, joined_at, lut_limit}
 use Rattle.cif_defs.specs.RawModule.{port_bits}
 use Rattle.cif_defs.specs.declared.kinds.Kind.{Kind}
 use Rattle.cif_defs.specs.declared.kinds.Kind.TheVariants.{Shl, Sshl, Shr, Sshr, Shift, Shiftx, Pmux, Bmux, Demux, Lut, Mem}
@@ -131,19 +131,18 @@ product_small size width s w =
     let at_most : size * width ≤ 4294967296 * width = mul-le-mul_right width (let q : size ≤ 4294967296 = omega arith in q) in
     omega arith
 
+-- a memory's words
+pub memory_narrow : (c : RawCell) → known_cell_fault c Mem ≡ None → number_or_0 c Width ≤ 4096
+memory_narrow c h = word_small c (else_none _ _ (else_none _ _ (else_none _ _ (else_none _ _ h).0).0).0).1
+
 known_small : (c : RawCell) (k : Kind) → known_cell_fault c k ≡ None → memory_size_by c (Some k) ≤ 17592186044416
 known_small c Mem h =
-    product_small (number_or_0 c Size) (number_or_0 c Width) (number_small c Size)
-    (word_small c (else_none _ _ (else_none _ _ (else_none _ _ (else_none _ _ h).0).0).0).1)
+    product_small (number_or_0 c Size) (number_or_0 c Width) (number_small c Size) (memory_narrow c h)
 known_small c k h = lit≤ tt
-
-chosen : (b : Bool) (x : Option BuildFault) (fault : BuildFault) → (if b then x else Some fault) ≡ None → x ≡ None
-chosen true x fault h = h
-chosen false x fault h = absurd (cc)
 
 small_by : (c : RawCell) (k : Option Kind) → cell_fault_by c k ≡ None → memory_size_by c k ≤ 17592186044416
 small_by c None h = lit≤ tt
-small_by c (Some k) h = known_small c k (chosen (is_built k) (known_cell_fault c k) _ h)
+small_by c (Some k) h = known_small c k h
 
 cell_small : (c : RawCell) → cell_fault c ≡ None → memory_size c ≤ 17592186044416
 unfolding cell_fault

@@ -4,7 +4,7 @@ use Rattle.std.specs.List.{All}
 use Rattle.std.proofs.Common.{arith, inl, inr, lit≤}
 use Rattle.std.proofs.lemmas.Bool.{or_parts, eqb-true, ltb-false, not-false}
 use Rattle.cif_defs.specs.Kinds.{role_of}
-use Rattle.cif_defs.specs.Table.{kind_of, is_built, ports_of, operands_of, outputs_of, clocks_of, port_text, width_limit, joined_at, shift_limit, shiftx_limit, lut_limit}
+use Rattle.cif_defs.specs.Table.{kind_of, ports_of, operands_of, outputs_of, clocks_of, port_text, width_limit, joined_at, shift_limit, shiftx_limit, lut_limit}
 use Rattle.cif_defs.specs.RawModule.{port_bits}
 use Rattle.cif_defs.specs.declared.kinds.Kind.{Kind}
 use Rattle.cif_defs.specs.declared.kinds.Kind.TheVariants.{Shl, Sshl, Shr, Sshr, Shift, Shiftx, Pmux, Bmux, Demux, Mem}
@@ -18,9 +18,9 @@ use Rattle.cif_defs.specs.declared.raw_module.RawCell.{RawCell}
 use Rattle.cif_defs.specs.declared.raw_module.Raw.{Raw}
 use Rattle.cif_cells.specs.Checks.{◌else_by◌, first_fault, cell_fault, cells_fault, memory_bits_fault, known_cell_fault, parameters_fault, memory_form, zero_width, too_wide, missing_port, wrong_width, constant_output, row_width, is_wide_memory, cell_spot, number_or_0}
 use Rattle.cif_cells.specs.declared.fault.BuildFault.{BuildFault}
-use Rattle.cif_cells.specs.declared.fault.BuildFault.TheVariants.{UnsupportedCell, WidthLimit, WidthMismatch}
+use Rattle.cif_cells.specs.declared.fault.BuildFault.TheVariants.{WidthLimit, WidthMismatch}
 use Rattle.cif_cells.proofs.Places.{Has, Has-left, Has-right}
-use Rattle.cif_cells.proofs.Passed.{first_passes, next_passes, test_passes, each_passes, known_memory, has_width}
+use Rattle.cif_cells.proofs.Passed.{first_passes, next_passes, test_passes, each_passes, known_memory, is_formed}
 
 limit_of_joined : (p q : CellPort) → joined_at p q ≤ 65536
 limit_of_joined A A = lit≤ tt
@@ -77,14 +77,10 @@ few_in_known cell k r h has =
     (each_passes (too_wide cell k) (ports_of k) r (next_passes zeros (first_fault (too_wide cell k) (ports_of k)) three) has)
     (each_passes (wrong_width cell) (ports_of k) r (next_passes missing (first_fault (wrong_width cell) (ports_of k)) five) has)
 
-pub built_passes : (cell : RawCell) (k : Kind) (b : Bool) → (if b then known_cell_fault cell k else Some (UnsupportedCell cell.name cell.kind)) ≡ None → known_cell_fault cell k ≡ None
-built_passes cell k true h = h
-built_passes cell k false h = absurd (cc)
-
 -- a cell that passes has a kind of the table
 pub known_passes : (cell : RawCell) (k : Kind) → cell_fault cell ≡ None → kind_of cell.kind ≡ Some k → known_cell_fault cell k ≡ None
 unfolding cell_fault
-known_passes cell k h e = built_passes cell k (is_built k) (rw e at h)
+known_passes cell k h e = rw e at h
 
 outputs_in_ports : (k : Kind) (r : PortRow) → Has (outputs_of k) r → Has (ports_of k) r
 unfolding ports_of
@@ -116,7 +112,7 @@ few_outputs Mem = lit≤ tt
 few_outputs _ = lit≤ tt
 
 pub memory_has_width : (cell : RawCell) (k : Kind) → cell_fault cell ≡ None → kind_of cell.kind ≡ Some k → role_of k ≡ MemoryBlock → 0 < number_or_0 cell Width
-memory_has_width cell k h e r = (let ne : number_or_0 cell Width ≢ 0 = has_width cell (known_memory cell k r (known_passes cell k h e)) in omega arith)
+memory_has_width cell k h e r = (let ne : number_or_0 cell Width ≢ 0 = (is_formed cell (known_memory cell k r (known_passes cell k h e))).width in omega arith)
 
 pub all_cells_pass : (raw : Raw) → cells_fault raw ≡ None → All (λ c. cell_fault c ≡ None) raw.cells
 unfolding cells_fault

@@ -1,11 +1,11 @@
--- The cells of an accepted module are of built kinds, and their ports have the widths that the table of kinds says.
+-- The ports of the cells of an accepted module have the widths that the table of kinds says.
 use Rattle.std.specs.Prelude.{ℕ, zero, suc, ◌+◌, ◌*◌, ◌^◌, ◌<◌, ◌≤◌, ◌≡◌, ◌≢◌, ◌==◌, nat_lt, Bool, true, false, not, ◌&&◌, List, [], ◌∷◌, ◌++◌, map, length, get_or, Option, Some, None, refl, if◌then◌else◌}
 use Rattle.std.specs.List.{list_all}
 use Rattle.std.proofs.Common.{arith, sym, ap, subst, ◌∙◌}
 use Rattle.std.proofs.lemmas.Bool.{and_parts, or_parts, eqb-true, eqb-false, ltb-false, not-false}
 use Rattle.std.proofs.lemmas.List.{length-map}
 use Rattle.cif_defs.specs.Kinds.{role_of}
-use Rattle.cif_defs.specs.Table.{kind_of, parameters_of, is_built, ports_of, operands_of, outputs_of, clocks_of, width_by, width_limit}
+use Rattle.cif_defs.specs.Table.{kind_of, parameters_of, ports_of, operands_of, outputs_of, clocks_of, width_by, width_limit}
 use Rattle.cif_defs.specs.RawModule.{net_numbers, port_bits}
 use Rattle.cif_defs.specs.Accepted.{netlist_of, cell_of, cell_by, source, target}
 use Rattle.cif_defs.specs.Cells.{Cell, number_of}
@@ -27,13 +27,12 @@ use Rattle.cif_cells.specs.NetlistView.{AreFitted}
 use Rattle.cif_cells.specs.declared.fault.BuildFault.{BuildFault}
 use Rattle.cif_cells.proofs.Passed.{first_passes, next_passes, test_passes, passed}
 use Rattle.cif_cells.proofs.FirstFaults.{first_fault-append}
-use Rattle.cif_cells.proofs.FewBits.{built_passes}
-use Rattle.cif_cells.proofs.CellChecks.{outputs_part}
+use Rattle.cif_cells.proofs.CellChecks.{limit_small, outputs_part}
 use Rattle.cif_cells.proofs.InitLaws.{is_plain, is_among, number_is}
 
 -- ---- the widths of the table ask only for numbers that a cell of the kind keeps
 
-abbrev is_asked : List Param → Param → Bool
+abbrev pub is_asked : List Param → Param → Bool
 is_asked ps p = is_plain p && is_among p ps
 
 abbrev is_known : List Param → PortWidth → Bool
@@ -58,7 +57,7 @@ outputs_known _ = refl
 
 -- ---- the numbers of the cell are those that the module gives
 
-number_kept : (ns : List ℕ) (cell : RawCell) (k : Kind) (p : Param) → is_asked (parameters_of k) p ≡ true → number_of (cell_by ns cell (Some k)) p ≡ number_or_0 cell p
+pub number_kept : (ns : List ℕ) (cell : RawCell) (k : Kind) (p : Param) → is_asked (parameters_of k) p ≡ true → number_of (cell_by ns cell (Some k)) p ≡ number_or_0 cell p
 number_kept ns cell k p h =
     let parts = and_parts (is_plain p) (is_among p (parameters_of k)) h in
     number_is cell p (parameters_of k) parts.0 ∙ ap (λ (b : Bool). if b then number_or_0 cell p else 0) parts.1
@@ -79,11 +78,11 @@ width_kept ns cell k (Blocks p q) h = two_kept ns cell k (λ x y. x * 2 ^ y) p q
 
 -- ---- what the checks leave known of some ports of a cell
 
-record RowsPass (cell : RawCell) (k : Kind) (rows : List PortRow) : Type 0 where
-  known : are_known k rows ≡ true
-  zeros : first_fault (zero_width cell k) rows ≡ None
-  wide : first_fault (too_wide cell k) rows ≡ None
-  widths : first_fault (wrong_width cell) rows ≡ None
+pub record RowsPass (cell : RawCell) (k : Kind) (rows : List PortRow) : Type 0 where
+  pub known : are_known k rows ≡ true
+  pub zeros : first_fault (zero_width cell k) rows ≡ None
+  pub wide : first_fault (too_wide cell k) rows ≡ None
+  pub widths : first_fault (wrong_width cell) rows ≡ None
 
 record RowPasses (cell : RawCell) (k : Kind) (r : PortRow) : Type 0 where
   known : is_known (parameters_of k) r.width ≡ true
@@ -134,12 +133,24 @@ has_bits true true h k = absurd (cc)
 has_bits true false h k = h
 has_bits false e h k = refl
 
+-- no port has more than its limit, and none has more than 65,536 bits
+row_below : (ns : List ℕ) (cell : RawCell) (k : Kind) (r : PortRow) → RowPasses cell k r → row_width (cell_by ns cell (Some k)) r ≤ width_limit k r.port
+row_below ns cell k r s =
+    let same : row_width (cell_by ns cell (Some k)) r ≡ given_width cell r = width_kept ns cell k r.width s.known in
+    let low : given_width cell r ≤ width_limit k r.port = ltb-false (width_limit k r.port) (given_width cell r) (or_parts (nat_lt (width_limit k r.port) (given_width cell r)) (is_wide_memory cell k r) (test_passes _ _ s.wide)).0 in
+    omega arith
+
+pub rows_below : (ns : List ℕ) (cell : RawCell) (k : Kind) (rows : List PortRow) → RowsPass cell k rows → (p : ℕ) → get_or (map (row_width (cell_by ns cell (Some k))) rows) p 0 ≤ 65536
+rows_below ns cell k [] s p = omega arith
+rows_below ns cell k (r ∷ rows) s zero = (let here = row_below ns cell k r (first_row cell k r rows s) in let limit = limit_small k r.port in omega arith)
+rows_below ns cell k (r ∷ rows) s (suc p) = rows_below ns cell k rows (next_rows cell k r rows s) p
+
 row_within : (ns : List ℕ) (cell : RawCell) (k : Kind) (r : PortRow) → k ≢ Mem → RowPasses cell k r → IsWithin (cell_by ns cell (Some k)) r
 row_within ns cell k r n s =
     let same : row_width (cell_by ns cell (Some k)) r ≡ given_width cell r = width_kept ns cell k r.width s.known in
     let some : given_width cell r ≢ 0 = eqb-false (given_width cell r) 0 (has_bits (given_width cell r == 0) (may_be_empty (role_of k)) (test_passes _ _ s.zero_is) (never_empty k n)) in
-    let low : given_width cell r ≤ width_limit k r.port = ltb-false (width_limit k r.port) (given_width cell r) (or_parts (nat_lt (width_limit k r.port) (given_width cell r)) (is_wide_memory cell k r) (test_passes _ _ s.wide)).0 in
-    record { some = omega arith; limit = omega arith }
+    let low = row_below ns cell k r s in
+    record { some = omega arith; limit = low }
 
 rows_within : (ns : List ℕ) (cell : RawCell) (k : Kind) (rows : List PortRow) → k ≢ Mem → RowsPass cell k rows → AllWithin (cell_by ns cell (Some k)) rows
 rows_within ns cell k [] n s = tt
@@ -168,12 +179,12 @@ operands_part f k h =
     next_passes (first_fault f (clocks_of k)) (first_fault f (operands_of k)) (sym (first_fault-append f (clocks_of k) (operands_of k))
     ∙ first_passes (first_fault f (clocks_of k ++ operands_of k)) (first_fault f (outputs_of k)) (sym (first_fault-append f (clocks_of k ++ operands_of k) (outputs_of k)) ∙ h))
 
-record CellPasses (cell : RawCell) (k : Kind) : Type 0 where
-  slice : slice_fault cell k ≡ None
-  operands : RowsPass cell k (operands_of k)
-  outputs : RowsPass cell k (outputs_of k)
+pub record CellPasses (cell : RawCell) (k : Kind) : Type 0 where
+  pub slice : slice_fault cell k ≡ None
+  pub operands : RowsPass cell k (operands_of k)
+  pub outputs : RowsPass cell k (outputs_of k)
 
-cell_passes : (cell : RawCell) (k : Kind) → known_cell_fault cell k ≡ None → CellPasses cell k
+pub cell_passes : (cell : RawCell) (k : Kind) → known_cell_fault cell k ≡ None → CellPasses cell k
 cell_passes cell k h =
     let forms = parameters_fault cell k else_by memory_form cell (role_of k) in
     let zeros = forms else_by first_fault (zero_width cell k) (ports_of k) in
@@ -215,42 +226,23 @@ known_fitted ns cell k h = (let s = cell_passes cell k h in record {
 
 fitted_by : (ns : List ℕ) (cell : RawCell) (o : Option Kind) → cell_fault_by cell o ≡ None → IsFitted (cell_by ns cell o)
 fitted_by ns cell None h = absurd (cc)
-fitted_by ns cell (Some k) h = known_fitted ns cell k (built_passes cell k (is_built k) h)
+fitted_by ns cell (Some k) h = known_fitted ns cell k h
 
-cell_fitted : (ns : List ℕ) (cell : RawCell) → cell_fault cell ≡ None → IsFitted (cell_of ns cell)
+pub cell_fitted : (ns : List ℕ) (cell : RawCell) → cell_fault cell ≡ None → IsFitted (cell_of ns cell)
 unfolding cell_of cell_fault
 cell_fitted ns cell h = fitted_by ns cell (kind_of cell.kind) h
 
--- ---- its kind is built
-
-built_if : (b : Bool) (known : Option BuildFault) (f : BuildFault) → (if b then known else Some f) ≡ None → b ≡ true
-built_if true known f h = refl
-built_if false known f h = absurd (cc)
-
-built_by : (ns : List ℕ) (cell : RawCell) (o : Option Kind) → cell_fault_by cell o ≡ None → is_built (cell_by ns cell o).kind ≡ true
-built_by ns cell None h = absurd (cc)
-built_by ns cell (Some k) h = built_if (is_built k) (known_cell_fault cell k) _ h
-
-cell_built : (ns : List ℕ) (cell : RawCell) → cell_fault cell ≡ None → is_built (cell_of ns cell).kind ≡ true
-unfolding cell_of cell_fault
-cell_built ns cell h = built_by ns cell (kind_of cell.kind) h
-
 -- ---- the cells of an accepted module
 
-each_cell : (P : Cell → Type 0) (ns : List ℕ) (cells : List RawCell) → ((cell : RawCell) → cell_fault cell ≡ None → P (cell_of ns cell)) → first_fault cell_fault cells ≡ None
+pub each_cell : (P : Cell → Type 0) (ns : List ℕ) (cells : List RawCell) → ((cell : RawCell) → cell_fault cell ≡ None → P (cell_of ns cell)) → first_fault cell_fault cells ≡ None
     → (i : ℕ) → i < length (map (cell_of ns) cells) → P (get_or (map (cell_of ns) cells) i no_cell)
 each_cell P ns [] law h i l = absurd (omega arith)
 each_cell P ns (cell ∷ cells) law h zero l = law cell (first_passes (cell_fault cell) (first_fault cell_fault cells) h)
 each_cell P ns (cell ∷ cells) law h (suc i) l = each_cell P ns cells law (next_passes (cell_fault cell) (first_fault cell_fault cells) h) i (omega arith)
 
-cells_pass : (raw : Raw) → cells_fault raw ≡ None → first_fault cell_fault raw.cells ≡ None
+pub cells_pass : (raw : Raw) → cells_fault raw ≡ None → first_fault cell_fault raw.cells ≡ None
 unfolding cells_fault
 cells_pass raw h = first_passes (first_fault cell_fault raw.cells) (memory_bits_fault raw) h
-
--- a kind that is built, whichever those are
-pub kind_built : (raw : Raw) → IsAccepted raw → (i : ℕ) → i < length (netlist_of raw).cells → is_built (cell_at (netlist_of raw) i).kind ≡ true
-unfolding netlist_of
-kind_built raw h i l = each_cell (λ (c : Cell). is_built c.kind ≡ true) (net_numbers raw) raw.cells (cell_built (net_numbers raw)) (cells_pass raw (passed raw h).cells) i l
 
 -- the widths of the table of kinds
 pub fitted : (raw : Raw) → IsAccepted raw → (i : ℕ) → i < length (netlist_of raw).cells → IsFitted (cell_at (netlist_of raw) i)
@@ -267,3 +259,41 @@ all_fitted raw cells e h =
 pub fitted_at : (cells : List Cell) → AreFitted cells → (i : ℕ) → i < length cells → IsFitted (get_or cells i no_cell)
 unfolding AreFitted
 fitted_at cells h = h
+
+-- ---- no port of an accepted cell has more than 65,536 bits
+
+pub length-at : {A : Type 0} (xss : List (List A)) (p : ℕ) → length (get_or xss p []) ≡ get_or (map length xss) p 0
+length-at [] p = refl
+length-at (xs ∷ xss) zero = refl
+length-at (xs ∷ xss) (suc p) = length-at xss p
+
+abbrev IsNarrow : Cell → Type 0
+IsNarrow c = (p : ℕ) → (length (get_or c.operands p []) ≤ 65536) × (length (get_or c.outputs p []) ≤ 65536)
+
+known_narrow : (ns : List ℕ) (cell : RawCell) (k : Kind) → known_cell_fault cell k ≡ None → IsNarrow (cell_by ns cell (Some k))
+known_narrow ns cell k h p =
+    let s = cell_passes cell k h in
+    let c = cell_by ns cell (Some k) in
+    let ins : length (get_or c.operands p []) ≡ get_or (map (row_width c) (operands_of k)) p 0 = length-at c.operands p ∙ ap (λ xs. get_or xs p 0) (row_lengths (source ns) ns cell k (operands_of k) s.operands) in
+    let outs : length (get_or c.outputs p []) ≡ get_or (map (row_width c) (outputs_of k)) p 0 = length-at c.outputs p ∙ ap (λ xs. get_or xs p 0) (row_lengths (target ns) ns cell k (outputs_of k) s.outputs) in
+    let ins_low = rows_below ns cell k (operands_of k) s.operands p in
+    let outs_low = rows_below ns cell k (outputs_of k) s.outputs p in
+    (omega arith, omega arith)
+
+narrow_by : (ns : List ℕ) (cell : RawCell) (o : Option Kind) → cell_fault_by cell o ≡ None → IsNarrow (cell_by ns cell o)
+narrow_by ns cell None h = absurd (cc)
+narrow_by ns cell (Some k) h = known_narrow ns cell k h
+
+cell_narrow : (ns : List ℕ) (cell : RawCell) → cell_fault cell ≡ None → IsNarrow (cell_of ns cell)
+unfolding cell_of cell_fault
+cell_narrow ns cell h = narrow_by ns cell (kind_of cell.kind) h
+
+narrow_at : (raw : Raw) → IsAccepted raw → (i : ℕ) → i < length (netlist_of raw).cells → IsNarrow (cell_at (netlist_of raw) i)
+unfolding netlist_of
+narrow_at raw h i l = each_cell IsNarrow (net_numbers raw) raw.cells (cell_narrow (net_numbers raw)) (cells_pass raw (passed raw h).cells) i l
+
+pub narrow_operand : (raw : Raw) → IsAccepted raw → (i p : ℕ) → i < length (netlist_of raw).cells → length (get_or (cell_at (netlist_of raw) i).operands p []) ≤ 65536
+narrow_operand raw h i p l = (narrow_at raw h i l p).0
+
+pub narrow_output : (raw : Raw) → IsAccepted raw → (i p : ℕ) → i < length (netlist_of raw).cells → length (get_or (cell_at (netlist_of raw) i).outputs p []) ≤ 65536
+narrow_output raw h i p l = (narrow_at raw h i l p).1

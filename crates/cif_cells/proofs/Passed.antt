@@ -5,7 +5,7 @@ use Rattle.std.proofs.Common.{arith, sym, ap, ◌∙◌, inl, inr}
 use Rattle.std.proofs.lemmas.List.{map-append}
 use Rattle.std.proofs.lemmas.Bool.{and_parts, or_parts, eqb-true, eqb-false, ltb-false, not-false}
 use Rattle.cif_defs.specs.Kinds.{role_of}
-use Rattle.cif_defs.specs.Table.{kind_of, is_built, ports_of, outputs_of, clocks_of}
+use Rattle.cif_defs.specs.Table.{kind_of, ports_of, outputs_of, clocks_of}
 use Rattle.cif_defs.specs.RawModule.{bits_by, clock_bits, net_numbers}
 use Rattle.cif_defs.specs.Accepted.{is_input, is_clock, all_clock_bits, driven}
 use Rattle.cif_defs.specs.declared.kinds.Kind.{Kind}
@@ -20,7 +20,7 @@ use Rattle.cif_defs.specs.declared.raw_module.RawCell.{RawCell}
 use Rattle.cif_defs.specs.declared.raw_module.Raw.{Raw}
 use Rattle.cif_cells.specs.Checks.{◌else_by◌, fault_if, first_fault, counts_fault, ports_fault, cells_fault, cell_fault, cell_fault_by, known_cell_fault, parameters_fault, memory_form, zero_width, too_wide, missing_port, wrong_width, constant_output, has_digit, mask_digits, data_fault, is_same_bit, has_bad_form, number_or_0, memory_bits_fault, drivers_fault, driven_numbers, is_twice, clocks_fault, uses_fault, clock_fault, clock_uses, clock_uses_by, uses_from, ClockUse, is_clock_input, is_only_bit, reads_fault, inits_fault, build_fault, IsAccepted}
 use Rattle.cif_cells.specs.declared.fault.BuildFault.{BuildFault}
-use Rattle.cif_cells.specs.declared.fault.BuildFault.TheVariants.{UnsupportedCell, NoClockInput, TwoClocks}
+use Rattle.cif_cells.specs.declared.fault.BuildFault.TheVariants.{NoClockInput, TwoClocks}
 use Rattle.cif_cells.proofs.Places.{At, Has, At-has, Has-any, Has-filter, Has-at}
 use Rattle.cif_cells.proofs.Driven.{CellIs, driven_by_input, times, word_width}
 
@@ -90,12 +90,15 @@ known_memory cell k e h =
     let one = first_passes forms (first_fault (zero_width cell k) (ports_of k)) two in
     memory_by_role cell (role_of k) e (next_passes (parameters_fault cell k) (memory_form cell (role_of k)) one)
 
-built_memory : (cell : RawCell) (k : Kind) (b : Bool) → role_of k ≡ MemoryBlock → (if b then known_cell_fault cell k else Some (UnsupportedCell cell.name cell.kind)) ≡ None → has_bad_form cell ≡ false
-built_memory cell k true e h = known_memory cell k e h
-built_memory cell k false e h = absurd (cc)
+-- what a memory of a good form gives
+pub record IsFormed (cell : RawCell) : Type 0 where
+  pub width : number_or_0 cell Width ≢ 0
+  pub size : number_or_0 cell Size ≢ 0
+  pub address : number_or_0 cell Abits ≢ 0
+  pub address_limit : number_or_0 cell Abits ≤ 32
 
-pub has_width : (cell : RawCell) → has_bad_form cell ≡ false → number_or_0 cell Width ≢ 0
-has_width cell h =
+pub is_formed : (cell : RawCell) → has_bad_form cell ≡ false → IsFormed cell
+is_formed cell h =
     let w = number_or_0 cell Width == 0 in
     let s = w || number_or_0 cell Size == 0 in
     let a = s || number_or_0 cell Abits == 0 in
@@ -110,14 +113,19 @@ has_width cell h =
     let three = or_parts a (nat_lt 32 (number_or_0 cell Abits)) four.0 in
     let two = or_parts s (number_or_0 cell Abits == 0) three.0 in
     let one = or_parts w (number_or_0 cell Size == 0) two.0 in
-    eqb-false (number_or_0 cell Width) 0 one.0
+    record {
+      width = eqb-false (number_or_0 cell Width) 0 one.0;
+      size = eqb-false (number_or_0 cell Size) 0 one.1;
+      address = eqb-false (number_or_0 cell Abits) 0 two.1;
+      address_limit = ltb-false 32 (number_or_0 cell Abits) three.1;
+    }
 
 pub word_width_positive : (raw : Raw) (c : ℕ) (cell : RawCell) (k : Kind) → cells_fault raw ≡ None → CellIs raw c cell k → role_of k ≡ MemoryBlock → 0 < word_width cell
 unfolding cells_fault cell_fault
 word_width_positive raw c cell k h is e =
     let here : cell_fault_by cell (kind_of cell.kind) ≡ None = each_passes cell_fault raw.cells cell (first_passes (first_fault cell_fault raw.cells) (memory_bits_fault raw) h) (Has-at raw.cells c cell is.at_cell) in
-    let form : has_bad_form cell ≡ false = built_memory cell k (is_built k) e (rw is.is_kind at here) in
-    let ne : word_width cell ≢ 0 = has_width cell form in
+    let form : has_bad_form cell ≡ false = known_memory cell k e (rw is.is_kind at here) in
+    let ne : word_width cell ≢ 0 = (is_formed cell form).width in
     omega arith
 
 -- ---- the clock is an input

@@ -14,7 +14,7 @@ use Rattle.cif_defs.specs.RawModule.{digits_given, net_numbers, number_given, ou
 use Rattle.cif_defs.specs.Words.{Word, bit, word, zeros}
 use Rattle.cif_defs.specs.Cells.{Cell, number_in, number_of, state_bits, state_bits_by, width}
 use Rattle.cif_defs.specs.Accepted.{cell_by, cell_of, netlist_of, numbers_of}
-use Rattle.cif_defs.specs.Netlist.{no_cell}
+use Rattle.cif_defs.specs.Netlist.{cell_at, no_cell}
 use Rattle.cif_defs.specs.declared.kinds.Kind.{Kind}
 use Rattle.cif_defs.specs.declared.kinds.Role.{Role}
 use Rattle.cif_defs.specs.declared.kinds.Role.TheVariants.{Combinational, PlainRegister, ResetRegister, MemoryBlock, CarriedOver}
@@ -26,7 +26,10 @@ use Rattle.cif_cells.specs.Checks.{◌else_by◌, fault_if, IsAccepted, cells_fa
 use Rattle.cif_cells.specs.declared.fault.BuildFault.TheVariants.{TooManyBits}
 use Rattle.std.proofs.Math.Nat.{mul-le-mul_left, mul-le-mul_right}
 use Rattle.cif_cells.proofs.RawLaws.{number_small}
-use Rattle.cif_cells.proofs.Passed.{next_passes, passed, test_passes}
+use Rattle.cif_cells.proofs.FittedCells.{cell_fitted, cells_pass}
+use Rattle.cif_cells.proofs.Passed.{first_passes, next_passes, passed, test_passes}
+use Rattle.cif_cells.proofs.RegisterCells.{register_width_fits}
+use Rattle.cif_cells.specs.RegisterKinds.{is_register}
 
 -- ---- numbers of a cell
 
@@ -75,29 +78,45 @@ kind_is ns c role apart h = kind_by ns c (kind_of c.kind) role apart h
 product_le : (a b c d : ℕ) → a ≤ b → c ≤ d → a * c ≤ b * d
 product_le a b c d h k = omega (arith, mul-le-mul_right c h, mul-le-mul_left b k)
 
-stored_by : (ns : List ℕ) (c : RawCell) (role : Role) → role_of (cell_of ns c).kind ≡ role → state_bits_by role (cell_of ns c) ≤ 4294967296 + memory_size c
-stored_by ns c PlainRegister e = (let w = number_of_cell ns c Width in let s = number_small c Width in omega arith)
-stored_by ns c ResetRegister e = (let w = number_of_cell ns c Width in let s = number_small c Width in omega arith)
-stored_by ns c MemoryBlock e =
+memory_stores : (ns : List ℕ) (c : RawCell) → role_of (cell_of ns c).kind ≡ MemoryBlock → number_of (cell_of ns c) Size * number_of (cell_of ns c) Width ≤ memory_size c
+memory_stores ns c e =
     let k = kind_is ns c MemoryBlock (λ q. absurd (cc)) e in
     let m : memory_size c ≡ number_or_0 c Size * number_or_0 c Width = memory_of c (cell_of ns c).kind k e in
     let l : number_of (cell_of ns c) Size * number_of (cell_of ns c) Width ≤ number_or_0 c Size * number_or_0 c Width = product_le (number_of (cell_of ns c) Size) (number_or_0 c Size) (number_of (cell_of ns c) Width) (number_or_0 c Width) (number_of_cell ns c Size) (number_of_cell ns c Width) in
     omega arith
-stored_by ns c Combinational e = omega arith
-stored_by ns c CarriedOver e = omega arith
 
-stored_le : (ns : List ℕ) (c : RawCell) → state_bits (cell_of ns c) ≤ 4294967296 + memory_size c
-stored_le ns c = stored_by ns c (role_of (cell_of ns c).kind) refl
+register_stores : (ns : List ℕ) (c : RawCell) → is_register (role_of (cell_of ns c).kind) ≡ true → cell_fault c ≡ None → number_of (cell_of ns c) Width ≤ 4096
+register_stores ns c r h = (register_width_fits (cell_of ns c) r (cell_fitted ns c h)).limit
 
-total_le : (ns : List ℕ) (cells : List RawCell) → sum_by state_bits (map (cell_of ns) cells) ≤ 4294967296 * length cells + sum_by memory_size cells
-total_le ns [] = omega arith
-total_le ns (c ∷ cs) =
+stored_by : (ns : List ℕ) (c : RawCell) (role : Role) → role_of (cell_of ns c).kind ≡ role → cell_fault c ≡ None → (state_bits_by role (cell_of ns c) ≤ 4096) ⊎ (state_bits_by role (cell_of ns c) ≤ memory_size c)
+stored_by ns c PlainRegister e h = inl (register_stores ns c (ap is_register e) h)
+stored_by ns c ResetRegister e h = inl (register_stores ns c (ap is_register e) h)
+stored_by ns c MemoryBlock e h = inr (memory_stores ns c e)
+stored_by ns c Combinational e h = inl (lit≤ tt)
+stored_by ns c CarriedOver e h = inl (lit≤ tt)
+
+-- a register stores at most 4,096 bits, a memory its own
+stored : (ns : List ℕ) (c : RawCell) → cell_fault c ≡ None → (state_bits (cell_of ns c) ≤ 4096) ⊎ (state_bits (cell_of ns c) ≤ memory_size c)
+stored ns c h = stored_by ns c (role_of (cell_of ns c).kind) refl h
+
+total_le : (ns : List ℕ) (cells : List RawCell) → first_fault cell_fault cells ≡ None → sum_by state_bits (map (cell_of ns) cells) ≤ 4096 * length cells + sum_by memory_size cells
+total_le ns [] h = omega arith
+total_le ns (c ∷ cs) h =
     let a : sum_by state_bits (map (cell_of ns) (c ∷ cs)) ≡ state_bits (cell_of ns c) + sum_by state_bits (map (cell_of ns) cs) = sum_by-cons state_bits (cell_of ns c) (map (cell_of ns) cs) in
     let b : sum_by memory_size (c ∷ cs) ≡ memory_size c + sum_by memory_size cs = sum_by-cons memory_size c cs in
-    let h = stored_le ns c in
-    let r = total_le ns cs in
-    let n : 4294967296 * suc (length cs) ≡ 4294967296 + 4294967296 * length cs = omega arith in
-    omega arith
+    let rest = total_le ns cs (next_passes (cell_fault c) (first_fault cell_fault cs) h) in
+    let n : 4096 * suc (length cs) ≡ 4096 + 4096 * length cs = omega arith in
+    elim (stored ns c (first_passes (cell_fault c) (first_fault cell_fault cs) h)) [ inl s ↦ omega arith | inr s ↦ omega arith ]
+
+each_le : (ns : List ℕ) (cells : List RawCell) → first_fault cell_fault cells ≡ None → sum_by memory_size cells ≤ 16777216
+    → (i : ℕ) → i < length (map (cell_of ns) cells) → state_bits (get_or (map (cell_of ns) cells) i no_cell) ≤ 16777216
+each_le ns [] h m i l = absurd (omega arith)
+each_le ns (c ∷ cs) h m zero l =
+    let b : sum_by memory_size (c ∷ cs) ≡ memory_size c + sum_by memory_size cs = sum_by-cons memory_size c cs in
+    elim (stored ns c (first_passes (cell_fault c) (first_fault cell_fault cs) h)) [ inl s ↦ omega arith | inr s ↦ omega arith ]
+each_le ns (c ∷ cs) h m (suc i) l =
+    let b : sum_by memory_size (c ∷ cs) ≡ memory_size c + sum_by memory_size cs = sum_by-cons memory_size c cs in
+    each_le ns cs (next_passes (cell_fault c) (first_fault cell_fault cs) h) (omega arith) i (omega arith)
 
 memory_small : (raw : Raw) → cells_fault raw ≡ None → sum_by memory_size raw.cells ≤ 16777216
 unfolding cells_fault
@@ -107,21 +126,16 @@ memory_small raw h =
     let same = sum-map memory_size raw.cells in
     omega arith
 
-pub total_small : (raw : Raw) (ns : List ℕ) → cells_fault raw ≡ None → length raw.cells ≤ 400000 → sum_by state_bits (map (cell_of ns) raw.cells) < 2 ^ 64
-total_small raw ns h n = (let t = total_le ns raw.cells in let m = memory_small raw h in omega arith)
+-- ---- how many bits the cells of an accepted module store
 
--- each cell alone
-pub state_small : (ns : List ℕ) (c : RawCell) → state_bits (cell_of ns c) < 2 ^ 64
-state_small ns c = small_by ns c (role_of (cell_of ns c).kind) where
-  small_by : (ns : List ℕ) (c : RawCell) (role : Role) → state_bits_by role (cell_of ns c) < 2 ^ 64
-  small_by ns c PlainRegister = (let w = number_of_cell ns c Width in let s = number_small c Width in omega arith)
-  small_by ns c ResetRegister = (let w = number_of_cell ns c Width in let s = number_small c Width in omega arith)
-  small_by ns c MemoryBlock = (let w = number_of_cell ns c Width in let v = number_of_cell ns c Size in let s = number_small c Width in let t = number_small c Size in
-      let a : number_of (cell_of ns c) Size < 4294967296 = omega arith in let b : number_of (cell_of ns c) Width < 4294967296 = omega arith in
-      mul-lt (number_of (cell_of ns c) Size) (number_of (cell_of ns c) Width) 4294967296 4294967296 a b)
-  small_by ns c Combinational = lit< tt
-  small_by ns c CarriedOver = lit< tt
-
-pub cells_small : (raw : Raw) → IsAccepted raw → length (netlist_of raw).cells ≤ 400000 → sum_by state_bits (netlist_of raw).cells < 2 ^ 64
+pub few_state_bits : (raw : Raw) → IsAccepted raw → (i : ℕ) → i < length (netlist_of raw).cells → state_bits (cell_at (netlist_of raw) i) ≤ 16777216
 unfolding netlist_of
-cells_small raw h few = total_small raw (net_numbers raw) (passed raw h).cells (let e : length (map (cell_of (net_numbers raw)) raw.cells) ≡ length raw.cells = length-map raw.cells (cell_of (net_numbers raw)) in omega arith)
+few_state_bits raw h i l = each_le (net_numbers raw) raw.cells (cells_pass raw (passed raw h).cells) (memory_small raw (passed raw h).cells) i l
+
+pub cells_small : (raw : Raw) → IsAccepted raw → length (netlist_of raw).cells ≤ 400000 → sum_by state_bits (netlist_of raw).cells ≤ 1655177216
+unfolding netlist_of
+cells_small raw h few =
+    let e : length (map (cell_of (net_numbers raw)) raw.cells) ≡ length raw.cells = length-map raw.cells (cell_of (net_numbers raw)) in
+    let t = total_le (net_numbers raw) raw.cells (cells_pass raw (passed raw h).cells) in
+    let m = memory_small raw (passed raw h).cells in
+    omega arith

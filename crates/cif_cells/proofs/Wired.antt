@@ -142,7 +142,7 @@ register_kept k (inr e) = ap is_kept e
 
 -- ---- the width of a memory's words
 
-memory_kind : (k : Kind) → role_of k ≡ MemoryBlock → k ≡ Mem
+pub memory_kind : (k : Kind) → role_of k ≡ MemoryBlock → k ≡ Mem
 memory_kind Mem e = refl
 memory_kind _ e = absurd (cc)
 

@@ -5,7 +5,7 @@ use Rattle.cif_defs.specs.Words.{Word, bit}
 use Rattle.cif_defs.specs.Kinds.{role_of}
 use Rattle.cif_defs.specs.declared.kinds.Role.{Role}
 use Rattle.cif_defs.specs.declared.kinds.Role.TheVariants.{PlainRegister, ResetRegister, MemoryBlock}
-use Rattle.cif_defs.specs.Table.{kind_of, param_text, port_text, parameters_of, is_table, is_mask, operands_of, outputs_of, ports_of, width_by, width_limit, is_built}
+use Rattle.cif_defs.specs.Table.{kind_of, param_text, port_text, parameters_of, is_table, is_mask, operands_of, outputs_of, ports_of, width_by, width_limit}
 use Rattle.cif_defs.specs.RawModule.{value_named, below_limit_int, number_given, digits_given, connected, port_bits, output_bits, clock_bits, operand_bits, nets_in, net_numbers, is_net}
 use Rattle.cif_defs.specs.Accepted.{is_input, is_output, driven, driver_in, init_all}
 use Rattle.cif_defs.specs.declared.kinds.Kind.{Kind}
@@ -215,7 +215,7 @@ known_cell_fault c k =
 
 abbrev pub cell_fault_by : RawCell → Option Kind → Option BuildFault
 cell_fault_by c None = Some (UnsupportedCell c.name c.kind)
-cell_fault_by c (Some k) = if is_built k then known_cell_fault c k else Some (UnsupportedCell c.name c.kind)
+cell_fault_by c (Some k) = known_cell_fault c k
 
 unfoldable pub cell_fault : RawCell → Option BuildFault
 cell_fault c = cell_fault_by c (kind_of c.kind)

@@ -18,3 +18,4 @@ pub mod RegisterKinds
 pub mod ClockBit
 pub mod Finding
 pub mod Wires
+pub mod StateCells

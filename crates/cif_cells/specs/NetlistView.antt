@@ -1,6 +1,8 @@
 -- What the fields of a `Netlist` hold: the netlist of its raw module.
 use Rattle.std.specs.Prelude.{ℕ, ◌≡◌, ◌<◌, ◌≤◌, List, length, get_or, Option}
 use Rattle.cif_defs.specs.Words.{Word}
+use Rattle.cif_defs.specs.Kinds.{role_of}
+use Rattle.cif_defs.specs.declared.kinds.Role.TheVariants.{MemoryBlock}
 use Rattle.cif_defs.specs.Cells.{Cell}
 use Rattle.cif_defs.specs.Accepted.{netlist_of}
 use Rattle.cif_defs.specs.Fitted.{IsFitted}
@@ -10,6 +12,7 @@ use Rattle.cif_defs.specs.declared.nets.Driver.{Driver}
 use Rattle.cif_defs.specs.declared.raw_module.Raw.{Raw}
 use Rattle.cif_cells.specs.Checks.{IsAccepted}
 use Rattle.cif_cells.specs.ClockBit.{clock_of}
+use Rattle.cif_cells.specs.StateCells.{HasMemoryNumbers}
 use Rattle.cif_cells.specs.Wires.{HoldsWires, Wires}
 
 pub record Holds (raw : Raw) (inputs outputs : List Wire) (cells : List Cell) (drivers : List Driver) (initial : List Word) (clock : Option ℕ) (wires : Wires) : Type 0 where
@@ -28,3 +31,7 @@ pub record Holds (raw : Raw) (inputs outputs : List Wire) (cells : List Cell) (d
 -- each cell has ports as wide as the table of kinds says; opaque, so that a search does not try each cell
 unfoldable pub AreFitted : List Cell → Type 0
 AreFitted cells = (i : ℕ) → i < length cells → IsFitted (get_or cells i no_cell)
+
+-- each memory has the numbers of one; opaque likewise
+unfoldable pub HaveMemoryNumbers : List Cell → Type 0
+HaveMemoryNumbers cells = (i : ℕ) → i < length cells → role_of (get_or cells i no_cell).kind ≡ MemoryBlock → HasMemoryNumbers (get_or cells i no_cell)

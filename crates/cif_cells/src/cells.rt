@@ -242,9 +242,7 @@ fn check_cell(alloc: Global, cell: &RawCell) -> Result<(), BuildFault>
     ensures err { IfErr result (λ e. IsFirst (cell_fault cell.now) e) }
 {
     if let Some(kind) = table::kind_of(cell.kind.items()) {
-        if table::is_built(kind) {
-            return check_known_cell(alloc, cell, kind);
-        }
+        return check_known_cell(alloc, cell, kind);
     }
     let name = name_copy(alloc, cell.name.items())?;
     let kind = name_copy(alloc, cell.kind.items())?;

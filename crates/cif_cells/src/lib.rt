@@ -20,6 +20,8 @@ mod ports;
 mod raw_access;
 mod reads;
 mod state;
+#[cfg(test)]
+mod state_tests;
 pub mod table;
 #[cfg(test)]
 mod tests;

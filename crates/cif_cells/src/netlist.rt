@@ -10,7 +10,7 @@ ghost use Rattle.cif_cells.specs.Checks.{IsAccepted};
 ghost use Rattle.cif_cells.specs.ClockBit.{clock_of};
 ghost use Rattle.cif_cells.specs.Finding.{found_of};
 ghost use Rattle.cif_cells.specs.Inits.{init_of};
-ghost use Rattle.cif_cells.specs.NetlistView.{AreFitted};
+ghost use Rattle.cif_cells.specs.NetlistView.{AreFitted, HaveMemoryNumbers};
 ghost use Rattle.cif_cells.specs.Wires.{found_seen};
 
 use crate::assemble::{cells_of, inputs_of, outputs_of};
@@ -98,6 +98,7 @@ impl Netlist {
         ensures accepted { IsAccepted self.now }
         ensures wired { IsWired (netlist_of self.now) }
         ensures fitted { AreFitted result.now }
+        ensures memories { HaveMemoryNumbers result.now }
     {
         &self.cells
     }
@@ -156,9 +157,11 @@ impl Netlist {
         index < bits.len() as u64 && bits[index as usize]
     }
 
-    /// How many bits the registers and memories store together.
+    /// How many bits the registers and memories store together: at most 4,096 for each of 400,000 cells, and 16,777,216 in
+    /// memories.
     pub fn state_bits(&self) -> u64
-        ensures { result ≡ sum_by state_bits_of (netlist_of self.now).cells }
+        ensures sum { result ≡ sum_by state_bits_of (netlist_of self.now).cells }
+        ensures few { result ≤ 1655177216 }
     {
         total_bits(&self.cells)
     }

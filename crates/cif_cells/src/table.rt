@@ -2,7 +2,7 @@
 // The arms were written by a script from the Yosys cell library's parameters and ports.
 ghost use Rattle.std.specs.Prelude.{◌≡◌};
 ghost use Rattle.cif_defs.specs.Kinds.{role_of};
-ghost use Rattle.cif_defs.specs.Table.{type_text, all_kinds, kind_of as kind_of_text, param_text, port_text, parameters_of, operands_of, outputs_of, clocks_of, ports_of, is_table as is_table_param, is_mask as is_mask_param, width_limit as limit_of, is_built as is_built_kind};
+ghost use Rattle.cif_defs.specs.Table.{type_text, all_kinds, kind_of as kind_of_text, param_text, port_text, parameters_of, operands_of, outputs_of, clocks_of, ports_of, is_table as is_table_param, is_mask as is_mask_param, width_limit as limit_of};
 
 use cif_defs::{CellPort, Kind, Param, PortRow, PortWidth, Role};
 
@@ -814,60 +814,4 @@ pub fn width_limit(kind: Kind, port: CellPort) -> u64
         ) => NUMBER_LIMIT,
         _ => PLAIN_LIMIT,
     }
-}
-
-/// Whether cells of a kind can be evaluated so far.
-pub fn is_built(kind: Kind) -> bool
-    ensures { result ≡ is_built_kind kind }
-{
-    matches!(
-        kind,
-        Kind::Not
-            | Kind::Pos
-            | Kind::And
-            | Kind::Or
-            | Kind::Xor
-            | Kind::Xnor
-            | Kind::ReduceAnd
-            | Kind::ReduceOr
-            | Kind::ReduceXor
-            | Kind::ReduceXnor
-            | Kind::ReduceBool
-            | Kind::LogicNot
-            | Kind::LogicAnd
-            | Kind::LogicOr
-            | Kind::Concat
-            | Kind::Slice
-            | Kind::Fa
-            | Kind::Neg
-            | Kind::Add
-            | Kind::Sub
-            | Kind::Alu
-            | Kind::Lt
-            | Kind::Le
-            | Kind::Ge
-            | Kind::Gt
-            | Kind::Eq
-            | Kind::Ne
-            | Kind::Eqx
-            | Kind::Nex
-            | Kind::Shl
-            | Kind::Sshl
-            | Kind::Shr
-            | Kind::Sshr
-            | Kind::Shift
-            | Kind::Shiftx
-            | Kind::Mul
-            | Kind::Div
-            | Kind::Mod
-            | Kind::DivFloor
-            | Kind::ModFloor
-            | Kind::Pmux
-            | Kind::Bmux
-            | Kind::Demux
-            | Kind::Lut
-            | Kind::Mux
-            | Kind::Dff
-            | Kind::ScopeInfo
-    )
 }

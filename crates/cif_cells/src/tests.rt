@@ -8,7 +8,7 @@ use std::alloc::{AllocError, Global};
 use std::process::Abort;
 use std::test::Fail;
 
-fn name(alloc: Global, text: &str) -> Result<Name, AllocError> {
+pub fn name(alloc: Global, text: &str) -> Result<Name, AllocError> {
     Ok(Listed::of(Vec::from_slice(alloc, text.as_bytes())?))
 }
 
@@ -21,7 +21,7 @@ fn six_digits(alloc: Global, number: u64) -> Result<Name, AllocError> {
     Ok(Listed::of(digits))
 }
 
-fn module(
+pub fn module(
     alloc: Global,
     ports: Vec<RawPort>,
     cells: Vec<RawCell>,
@@ -36,7 +36,7 @@ fn module(
     })
 }
 
-fn port(name: Name, direction: Direction, bits: Vec<RawBit>) -> RawPort {
+pub fn port(name: Name, direction: Direction, bits: Vec<RawBit>) -> RawPort {
     RawPort {
         name,
         direction,
@@ -223,7 +223,7 @@ fn initial_values(rt: HostRuntime) -> Result<(), Fail> {
 // ---- names
 
 /// A bit, as one byte says it: `0`, `1`, `x`, `z`, or the digit of a net number from 2 on.
-fn bit_of(byte: u8) -> RawBit {
+pub fn bit_of(byte: u8) -> RawBit {
     match byte {
         b'0' => RawBit::Zero,
         b'1' => RawBit::One,

@@ -92,11 +92,11 @@ module _ (told : Option Files) (net : List ℕ) (raw : Raw) (netlist : NetlistTo
   out_of_check bytes fault old new (Err Unwritten) e ok stops is = out_broken told (Some (check net)) bytes old new (check_allowed bytes e) stops.1
   out_of_check bytes fault old new (Err NoMemory) e ok stops is = absurd (cc)
 
-  pub eval_allowed : (stim : List ℕ) (s : Stimulus) → StimulusTold told stim (netlist_of raw) s → IsAllowed told (Some (eval net stim)) (text (eval_text (netlist_of raw) s))
+  pub eval_allowed : (stim : List ℕ) (s : Stimulus) → StimulusTold told stim raw s → IsAllowed told (Some (eval net stim)) (text (eval_text (netlist_of raw) s))
   eval_allowed stim s stimulus = λ files t. evaluated net stim raw s (netlist.holds files t) (stimulus.holds files t)
 
   -- the text of `eval` was written, or a beginning of it
-  pub out_of_eval : {A : Type 0} (stim : List ℕ) (s : Stimulus) (fault : Type 0) (old new : Option (List ℕ)) (r : Result A Stop) → StimulusTold told stim (netlist_of raw) s → OnOk r (Appends old new (eval_text (netlist_of raw) s)) → IfErr r (StopsWriting fault old new (eval_text (netlist_of raw) s)) → WritesOut told (Some (eval net stim)) (end_status r) old new
+  pub out_of_eval : {A : Type 0} (stim : List ℕ) (s : Stimulus) (fault : Type 0) (old new : Option (List ℕ)) (r : Result A Stop) → StimulusTold told stim raw s → OnOk r (Appends old new (eval_text (netlist_of raw) s)) → IfErr r (StopsWriting fault old new (eval_text (netlist_of raw) s)) → WritesOut told (Some (eval net stim)) (end_status r) old new
   out_of_eval stim s fault old new (Ok x) stimulus ok stops = out_whole told (Some (eval net stim)) (eval_text (netlist_of raw) s) old new (eval_allowed stim s stimulus) ok
   out_of_eval stim s fault old new (Err Usage) stimulus ok stops = absurd stops
   out_of_eval stim s fault old new (Err (Refused line)) stimulus ok stops = absurd stops
@@ -105,7 +105,7 @@ module _ (told : Option Files) (net : List ℕ) (raw : Raw) (netlist : NetlistTo
   out_of_eval stim s fault old new (Err NoMemory) stimulus ok stops = out_stopped told net stim (eval_text (netlist_of raw) s) old new (eval_allowed stim s stimulus) stops
 
   -- the same, by the case that is evaluated
-  pub out_of_case : {A : Type 0} (stim : List ℕ) (s : Stimulus) (order : List ℕ) (v : CaseOf) (fault : Type 0) (old new : Option (List ℕ)) (r : Result A Stop) → v ≡ record { raw = raw; order = order; stimulus = s } → StimulusTold told stim (netlist_of raw) s → OnOk r (Appends old new (eval_text (net_of v) v.stimulus)) → IfErr r (StopsWriting fault old new (eval_text (net_of v) v.stimulus)) → WritesOut told (Some (eval net stim)) (end_status r) old new
+  pub out_of_case : {A : Type 0} (stim : List ℕ) (s : Stimulus) (order : List ℕ) (v : CaseOf) (fault : Type 0) (old new : Option (List ℕ)) (r : Result A Stop) → v ≡ record { raw = raw; order = order; stimulus = s } → StimulusTold told stim raw s → OnOk r (Appends old new (eval_text (net_of v) v.stimulus)) → IfErr r (StopsWriting fault old new (eval_text (net_of v) v.stimulus)) → WritesOut told (Some (eval net stim)) (end_status r) old new
   out_of_case stim s order v fault old new r e stimulus ok stops =
       let Whole : CaseOf → Type 0 = λ c. OnOk r (Appends old new (eval_text (net_of c) c.stimulus)) in
       let Stopped : CaseOf → Type 0 = λ c. IfErr r (StopsWriting fault old new (eval_text (net_of c) c.stimulus)) in
@@ -141,7 +141,7 @@ cause_at_netlist told c name failed rose write_fault Unwritten e h = absurd h
 cause_at_netlist told c name failed rose write_fault NoMemory e h = tt
 
 -- a stop at the stimulus; mid is what the store tells after the netlist was fetched
-pub cause_at_stimulus : (told mid : Option Files) (net stim failed : List ℕ) (raw : Raw) (rose later write_fault : Type 0) (stop : Stop) → mid ≡ told → (rose → later) → NetlistTold told net raw → StopsAtFile (StimulusRefused mid stim (netlist_of raw)) (rose × (failed ≡ stim)) stim stop → HasCause told (Some (eval net stim)) failed later write_fault stop
+pub cause_at_stimulus : (told mid : Option Files) (net stim failed : List ℕ) (raw : Raw) (rose later write_fault : Type 0) (stop : Stop) → mid ≡ told → (rose → later) → NetlistTold told net raw → StopsAtFile (StimulusRefused mid stim raw) (rose × (failed ≡ stim)) stim stop → HasCause told (Some (eval net stim)) failed later write_fault stop
 cause_at_stimulus told mid net stim failed raw rose later write_fault Usage e f netlist h = absurd h
 cause_at_stimulus told mid net stim failed raw rose later write_fault (Refused line) e f netlist h = (
   h.0,
@@ -157,8 +157,8 @@ cause_at_stimulus told mid net stim failed raw rose later write_fault Unwritten 
 cause_at_stimulus told mid net stim failed raw rose later write_fault NoMemory e f netlist h = tt
 
 -- what the store tells stays
-pub StimulusTold-along : (told mid : Option Files) (name : List ℕ) (n : Netlist) (s : Stimulus) → mid ≡ told → StimulusTold mid name n s → StimulusTold told name n s
-StimulusTold-along told mid name n s e h = record { holds = λ files t. h.holds files (e ∙ t) }
+pub StimulusTold-along : (told mid : Option Files) (name : List ℕ) (raw : Raw) (s : Stimulus) → mid ≡ told → StimulusTold mid name raw s → StimulusTold told name raw s
+StimulusTold-along told mid name raw s e h = record { holds = λ files t. h.holds files (e ∙ t) }
 
 -- ---- noninterference
 

@@ -1,20 +1,22 @@
 -- Stops at files, and what a file's reading says.
-use Rattle.std.specs.Prelude.{ℕ, ◌<◌, ◌≡◌, Bool, true, false, List, [], ◌∷◌, map, Option, Some, None, Ok, option_map, option_and_then, refl, if◌then◌else◌}
+use Rattle.std.specs.Prelude.{ℕ, ◌<◌, ◌≡◌, true, List, Option, Some, Result, Ok, Err}
 use Rattle.std.proofs.Common.{arith, ap, sym, subst, ◌∙◌}
 use Rattle.std.proofs.lemmas.Bool.Decides.{nat_tests}
 use Rattle.cif_io.specs.Outside.{Files}
-use Rattle.cif_defs.specs.Netlist.{Netlist}
-use Rattle.cif_defs.specs.Stimulus.{Stimulus, StimLine}
+use Rattle.cif_defs.specs.Stimulus.{Stimulus}
 use Rattle.cif_defs.specs.Accepted.{netlist_of}
-use Rattle.cif_defs.specs.Text.{words_of, lines_of, number_read}
-use Rattle.cif_defs.specs.StimulusText.{stimulus_read, stimulus_by_lines, cycles_read, is_cycle_count, lines_read, no_group}
 use Rattle.cif_defs.specs.Loop.{IsLoop}
 use Rattle.cif_defs.specs.declared.raw_module.Raw.{Raw}
 use Rattle.cif_cells.specs.Checks.{IsAccepted, IsFirst}
 use Rattle.cif_cells.specs.declared.fault.BuildFault.{BuildFault}
 use Rattle.cif_cells.specs.declared.fault.BuildFault.TheVariants.{Memory}
 use Rattle.cif_json.specs.Answers.{ComesTo}
-use Rattle.cif_desk.specs.Refusals.{Refusal, build_refusal, loop_refusal, not_built}
+use Rattle.cif_stim.specs.Places.{is_cycle_count}
+use Rattle.cif_stim.specs.StimulusText.{stimulus_read}
+use Rattle.cif_stim.specs.Reading.{IsFirst as IsFirstRead}
+use Rattle.cif_stim.specs.declared.fault.StimFault.{StimFault}
+use Rattle.cif_stim.specs.declared.fault.StimFault.TheVariants.{Memory as NoRoom}
+use Rattle.cif_desk.specs.Refusals.{Refusal, build_refusal, loop_refusal, stim_refusal}
 use Rattle.cif_desk.specs.Permitted.{FileTold, LongFileTold, IsNetlist, FailsNetlist, looped, long_netlist, bad_netlist, NetlistTold, NetlistRefused, long_stimulus, bad_stimulus, StimulusTold, StimulusRefused}
 use Rattle.cif_desk.specs.Stops.{StopsBy, StopsAtFile}
 use Rattle.cif_desk.specs.declared.stop.Stop.{Stop}
@@ -70,60 +72,25 @@ bad_netlist_refused told name bytes held r file e fails = record {
 
 -- ---- stimuli
 
-pub stimulus_told : (told : Option Files) (name bytes held : List ℕ) (n : Netlist) (s : Stimulus) → FileTold told name held → bytes ≡ held → stimulus_read n bytes ≡ Some s → StimulusTold told name n s
-stimulus_told told name bytes held n s file e read = record {
-  holds = λ files t. record { bytes = held; held = file.holds files t; read = ap (stimulus_read n) (sym e) ∙ read };
+-- a fault that has a refusal is the one that the reading gives
+pub read_first : (found : Result Stimulus StimFault) (fault : StimFault) (r : Refusal) → IsFirstRead found fault → stim_refusal fault ≡ Some r → found ≡ Err fault
+read_first found NoRoom r h e = absurd (cc)
+read_first found fault r h e = h
+
+pub stimulus_told : (told : Option Files) (name bytes held : List ℕ) (raw : Raw) (s : Stimulus) → FileTold told name held → bytes ≡ held → stimulus_read raw bytes ≡ Ok s → StimulusTold told name raw s
+stimulus_told told name bytes held raw s file e read = record {
+  holds = λ files t. record { bytes = held; held = file.holds files t; read = ap (stimulus_read raw) (sym e) ∙ read };
 }
 
-pub long_stimulus_refused : (told : Option Files) (name : List ℕ) (n : Netlist) (r : Refusal) → LongFileTold told name r → StimulusRefused told name n r
-long_stimulus_refused told name n r h = record { refuses = λ files t. long_stimulus (h.holds files t) h.is }
+pub long_stimulus_refused : (told : Option Files) (name : List ℕ) (raw : Raw) (r : Refusal) → LongFileTold told name r → StimulusRefused told name raw r
+long_stimulus_refused told name raw r h = record { refuses = λ files t. long_stimulus (h.holds files t) h.is }
 
-pub bad_stimulus_refused : (told : Option Files) (name bytes held : List ℕ) (n : Netlist) (r : Refusal) → FileTold told name held → bytes ≡ held → (stimulus_read n bytes ≡ None) × (not_built ≡ r) → StimulusRefused told name n r
-bad_stimulus_refused told name bytes held n r file e h = record {
-  refuses = λ files t. bad_stimulus held (file.holds files t) (ap (stimulus_read n) (sym e) ∙ h.0) h.1;
+pub bad_stimulus_refused : (told : Option Files) (name bytes held : List ℕ) (raw : Raw) (r : Refusal) → FileTold told name held → bytes ≡ held → (fault : StimFault) × (stimulus_read raw bytes ≡ Err fault) × (stim_refusal fault ≡ Some r) → StimulusRefused told name raw r
+bad_stimulus_refused told name bytes held raw r file e h = record {
+  refuses = λ files t. bad_stimulus held h.0 (file.holds files t) (ap (stimulus_read raw) (sym e) ∙ h.1) h.2;
 }
 
 -- ---- a stimulus has a cycle
 
-some_if : {A : Type 0} (b : Bool) (o : Option A) (x : A) → (if b then o else None) ≡ Some x → (b ≡ true) × (o ≡ Some x)
-some_if true o x e = (refl, e)
-some_if false o x e = absurd (cc)
-
-some_then : {A B : Type 0} (f : A → Option B) (o : Option A) (y : B) → option_and_then f o ≡ Some y → (x : A) × (o ≡ Some x) × (f x ≡ Some y)
-some_then f None y e = absurd (cc)
-some_then f (Some x) y e = (x, refl, e)
-
-some_map : {A B : Type 0} (f : A → B) (o : Option A) (y : B) → option_map f o ≡ Some y → (x : A) × (f x ≡ y)
-some_map f None y e = absurd (cc)
-some_map f (Some x) y e = (x, cc)
-
-counted : (k n : ℕ) → (if is_cycle_count k then Some k else None) ≡ Some n → 0 < n
-counted k n e =
-    let within : is_cycle_count k ≡ true = (some_if (is_cycle_count k) (Some k) n e).0 in
-    let same : k ≡ n = let s : Some k ≡ Some n = (some_if (is_cycle_count k) (Some k) n e).1 in cc in
-    grind (arith, nat_tests)
-
-cycles_positive : (words : List (List ℕ)) (n : ℕ) → cycles_read words ≡ Some n → 0 < n
-cycles_positive [] n e = absurd (cc)
-cycles_positive (head ∷ []) n e = absurd (cc)
-cycles_positive (head ∷ count ∷ []) n e = (
-    let body = some_if _ (option_and_then (λ k. if is_cycle_count k then Some k else None) (number_read count)) n e in
-    let found = some_then (λ k. if is_cycle_count k then Some k else None) (number_read count) n body.1 in
-    counted found.0 n found.2)
-cycles_positive (head ∷ count ∷ more ∷ words) n e = absurd (cc)
-
-by_lines : (n : Netlist) (lines : List (List (List ℕ))) (s : Stimulus) → stimulus_by_lines n lines ≡ Some s → 0 < s.cycles
-by_lines n [] s e = absurd (cc)
-by_lines n (first ∷ []) s e = absurd (cc)
-by_lines n (first ∷ second ∷ rest) s e = (
-    let make : ℕ → List StimLine → Stimulus = λ k ls. record { cycles = k; lines = ls } in
-    let body = some_if _ (option_and_then (λ k. option_map (make k) (lines_read n k no_group rest)) (cycles_read second)) s e in
-    let found = some_then (λ k. option_map (make k) (lines_read n k no_group rest)) (cycles_read second) s body.1 in
-    let made = some_map (make found.0) (lines_read n found.0 no_group rest) s found.2 in
-    let same : found.0 ≡ s.cycles = ap (λ (t : Stimulus). t.cycles) made.1 in
-    let positive : 0 < found.0 = cycles_positive second found.0 found.1 in
-    omega arith)
-
-pub has_cycles : (n : Netlist) (bytes : List ℕ) (s : Stimulus) → stimulus_read n bytes ≡ Some s → 0 < s.cycles
-unfolding stimulus_read
-has_cycles n bytes s e = by_lines n (map words_of (lines_of bytes)) s e
+pub some_cycles : (n : ℕ) → is_cycle_count n ≡ true → 0 < n
+some_cycles n h = grind (arith, nat_tests)

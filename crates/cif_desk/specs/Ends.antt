@@ -66,4 +66,4 @@ pub record KeepsApart (n : Netlist) (s : Stimulus) : Type 0 where
 abbrev pub EvaluatesApart : Option Files → Option Command → Type 0
 EvaluatesApart told asked =
     (files : Files) (net stim : List ℕ) (raw : Raw) (s : Stimulus) → told ≡ Some files → asked ≡ Some (eval net stim)
-    → HoldsNetlist files net raw → HoldsStimulus files stim (netlist_of raw) s → KeepsApart (netlist_of raw) s
+    → HoldsNetlist files net raw → HoldsStimulus files stim raw s → KeepsApart (netlist_of raw) s

@@ -1,5 +1,5 @@
 -- What a command line may come to, by the files that its words name.
-use Rattle.std.specs.Prelude.{ℕ, ◌<◌, ◌≤◌, ◌≡◌, List, [], ◌∷◌, map, sum, length, codes, Option, Some, None, Ok}
+use Rattle.std.specs.Prelude.{ℕ, ◌<◌, ◌≤◌, ◌≡◌, List, [], ◌∷◌, map, sum, length, codes, Option, Some, None, Ok, Err}
 use Rattle.std.specs.Fmt.{decimal}
 use Rattle.cif_io.specs.Outside.{Files, file_named, file_limit}
 use Rattle.cif_defs.specs.Text.{line_end}
@@ -7,16 +7,17 @@ use Rattle.cif_defs.specs.Cells.{state_bits}
 use Rattle.cif_defs.specs.Netlist.{Netlist}
 use Rattle.cif_defs.specs.Accepted.{netlist_of}
 use Rattle.cif_defs.specs.Stimulus.{Stimulus}
-use Rattle.cif_defs.specs.StimulusText.{stimulus_read}
 use Rattle.cif_defs.specs.EvalText.{eval_text}
 use Rattle.cif_defs.specs.Loop.{IsLoop}
 use Rattle.cif_defs.specs.declared.raw_module.Raw.{Raw}
 use Rattle.cif_cells.specs.Checks.{build_fault, IsAccepted}
 use Rattle.cif_cells.specs.declared.fault.BuildFault.{BuildFault}
 use Rattle.cif_json.specs.Answers.{ComesTo, IsRefused}
+use Rattle.cif_stim.specs.StimulusText.{stimulus_read}
+use Rattle.cif_stim.specs.declared.fault.StimFault.{StimFault}
 use Rattle.cif_json.specs.declared.fault.JsonFault.{JsonFault}
 use Rattle.cif_desk.specs.Commands.{Command, check, eval, net_word}
-use Rattle.cif_desk.specs.Refusals.{Refusal, joined, too_long, json_refusal, build_refusal, loop_refusal, not_built}
+use Rattle.cif_desk.specs.Refusals.{Refusal, joined, too_long, json_refusal, build_refusal, loop_refusal, stim_refusal}
 
 -- ---- files
 
@@ -64,14 +65,15 @@ pub data RefusesNetlist (files : Files) (name : List ℕ) (refusal : Refusal) : 
 
 -- ---- stimuli
 
-pub record HoldsStimulus (files : Files) (name : List ℕ) (n : Netlist) (s : Stimulus) : Type 0 where
+-- for the netlist of a module
+pub record HoldsStimulus (files : Files) (name : List ℕ) (raw : Raw) (s : Stimulus) : Type 0 where
   pub bytes : List ℕ
   pub held : HoldsFile files name bytes
-  pub read : stimulus_read n bytes ≡ Some s
+  pub read : stimulus_read raw bytes ≡ Ok s
 
-pub data RefusesStimulus (files : Files) (name : List ℕ) (n : Netlist) (refusal : Refusal) : Type 0 where
-  long_stimulus : HoldsLongFile files name → too_long name ≡ refusal → RefusesStimulus files name n refusal
-  bad_stimulus : (bytes : List ℕ) → HoldsFile files name bytes → stimulus_read n bytes ≡ None → not_built ≡ refusal → RefusesStimulus files name n refusal
+pub data RefusesStimulus (files : Files) (name : List ℕ) (raw : Raw) (refusal : Refusal) : Type 0 where
+  long_stimulus : HoldsLongFile files name → too_long name ≡ refusal → RefusesStimulus files name raw refusal
+  bad_stimulus : (bytes : List ℕ) (fault : StimFault) → HoldsFile files name bytes → stimulus_read raw bytes ≡ Err fault → stim_refusal fault ≡ Some refusal → RefusesStimulus files name raw refusal
 
 -- ---- the same, where the store tells its files
 
@@ -81,11 +83,11 @@ pub record NetlistTold (told : Option Files) (name : List ℕ) (raw : Raw) : Typ
 pub record NetlistRefused (told : Option Files) (name : List ℕ) (refusal : Refusal) : Type 0 where
   pub refuses : (files : Files) → told ≡ Some files → RefusesNetlist files name refusal
 
-pub record StimulusTold (told : Option Files) (name : List ℕ) (n : Netlist) (s : Stimulus) : Type 0 where
-  pub holds : (files : Files) → told ≡ Some files → HoldsStimulus files name n s
+pub record StimulusTold (told : Option Files) (name : List ℕ) (raw : Raw) (s : Stimulus) : Type 0 where
+  pub holds : (files : Files) → told ≡ Some files → HoldsStimulus files name raw s
 
-pub record StimulusRefused (told : Option Files) (name : List ℕ) (n : Netlist) (refusal : Refusal) : Type 0 where
-  pub refuses : (files : Files) → told ≡ Some files → RefusesStimulus files name n refusal
+pub record StimulusRefused (told : Option Files) (name : List ℕ) (raw : Raw) (refusal : Refusal) : Type 0 where
+  pub refuses : (files : Files) → told ≡ Some files → RefusesStimulus files name raw refusal
 
 -- ---- what is answered
 
@@ -104,8 +106,8 @@ pub data Answer : Type 0 where
 pub data Permits (files : Files) : Command → Answer → Type 0 where
   netlist_refused : (c : Command) (refusal : Refusal) → RefusesNetlist files (net_word c) refusal → Permits files c (refused refusal)
   checked : (net : List ℕ) (raw : Raw) → HoldsNetlist files net raw → Permits files (check net) (text (check_text (netlist_of raw)))
-  stimulus_refused : (net stim : List ℕ) (raw : Raw) (refusal : Refusal) → HoldsNetlist files net raw → RefusesStimulus files stim (netlist_of raw) refusal → Permits files (eval net stim) (refused refusal)
-  evaluated : (net stim : List ℕ) (raw : Raw) (s : Stimulus) → HoldsNetlist files net raw → HoldsStimulus files stim (netlist_of raw) s → Permits files (eval net stim) (text (eval_text (netlist_of raw) s))
+  stimulus_refused : (net stim : List ℕ) (raw : Raw) (refusal : Refusal) → HoldsNetlist files net raw → RefusesStimulus files stim raw refusal → Permits files (eval net stim) (refused refusal)
+  evaluated : (net stim : List ℕ) (raw : Raw) (s : Stimulus) → HoldsNetlist files net raw → HoldsStimulus files stim raw s → Permits files (eval net stim) (text (eval_text (netlist_of raw) s))
 
 -- a permitted answer to what was asked: where the words fit no form, usage alone
 abbrev pub IsPermitted : Option Command → Files → Answer → Type 0

@@ -11,6 +11,8 @@ use Rattle.cif_cells.specs.declared.fault.BuildFault.{BuildFault}
 use Rattle.cif_cells.specs.declared.fault.BuildFault.TheVariants.{UnsupportedCell, MissingPort, WidthMismatch, WidthLimit, BadParameter, XOperand, MultiDriven, Undriven, ConstantOutput, TwoClocks, ClockAsData, InoutPort, InitConflict, MemoryForm, TooManyCells, TooManyBits, ZeroWidth, NoClockInput, PortClash, Memory}
 use Rattle.cif_json.specs.declared.fault.JsonFault.{JsonFault}
 use Rattle.cif_json.specs.declared.fault.JsonFault.TheVariants.{BadJson, NoModules, NoTop, BadShape, Memory as NoMemory}
+use Rattle.cif_stim.specs.declared.fault.StimFault.{StimFault}
+use Rattle.cif_stim.specs.declared.fault.StimFault.TheVariants.{BadLine, NoSuchName, WrongWidth, NoCycles, TooManyCycles, SetTwice, BadAddress, Memory as NoRoom}
 
 pub record Refusal : Type 0 where
   pub number : ℕ
@@ -85,6 +87,13 @@ loop_refusal n cells = refusal 30 (codes "loop" ∷ names_of n cells)
 
 -- ---- stimuli
 
--- a stimulus of a form that isn't read yet
-abbrev pub not_built : Refusal
-not_built = refusal 90 (codes "not built yet" ∷ [])
+-- want of memory is no refusal
+abbrev pub stim_refusal : StimFault → Option Refusal
+stim_refusal (BadLine line) = Some (refusal 40 (codes "line " ∷ decimal line ∷ []))
+stim_refusal (NoSuchName line) = Some (refusal 41 (codes "name at line " ∷ decimal line ∷ []))
+stim_refusal (WrongWidth line) = Some (refusal 42 (codes "width at line " ∷ decimal line ∷ []))
+stim_refusal NoCycles = Some (refusal 43 (codes "no cycles" ∷ []))
+stim_refusal TooManyCycles = Some (refusal 44 (codes "too many cycles" ∷ []))
+stim_refusal (SetTwice line) = Some (refusal 45 (codes "set again at line " ∷ decimal line ∷ []))
+stim_refusal (BadAddress line) = Some (refusal 46 (codes "address at line " ∷ decimal line ∷ []))
+stim_refusal NoRoom = None

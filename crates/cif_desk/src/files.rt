@@ -1,22 +1,23 @@
 // Files that words name, read and checked.
-ghost use Rattle.std.specs.Prelude.{◌≡◌, ◌<◌, ℕ, List, Some, None, IfOk, IfErr, OnOk};
+ghost use Rattle.std.specs.Prelude.{◌≡◌, ◌<◌, Some, true, Ok, Err, IfOk, IfErr, OnOk};
 ghost use Rattle.cif_io.specs.Outside.{Rose};
 ghost use Rattle.cif_defs.specs.Accepted.{netlist_of};
 ghost use Rattle.cif_defs.specs.Loop.{IsLevelled};
-ghost use Rattle.cif_defs.specs.StimulusText.{stimulus_read};
-ghost use Rattle.cif_desk.specs.Refusals.{not_built};
+ghost use Rattle.cif_stim.specs.StimulusText.{stimulus_read};
+ghost use Rattle.cif_stim.specs.Fitting.{fits_of};
+ghost use Rattle.cif_stim.specs.Places.{IsOrdered};
+ghost use Rattle.cif_stim.specs.declared.fault.StimFault.{StimFault as FaultValue};
+ghost use Rattle.cif_desk.specs.Refusals.{stim_refusal};
 ghost use Rattle.cif_desk.specs.Permitted.{FileTold, LongFileTold, IsNetlist, FailsNetlist, NetlistTold, NetlistRefused, StimulusTold, StimulusRefused};
 ghost use Rattle.cif_desk.specs.Stops.{StopsBy, StopsAtFile};
 
-use crate::refusal::{
-    build_stop, json_stop, loop_stop, not_built_stop, too_long_stop, unread_stop,
-};
+use crate::refusal::{build_stop, json_stop, loop_stop, stim_stop, too_long_stop, unread_stop};
 use crate::stop::Stop;
 use cif_cells::Netlist;
 use cif_io::{Store, StoreFault};
 use cif_json::read_netlist;
 use cif_level::{LevelFault, Levels, levels};
-use cif_stim::{StimFault, Stimulus, read_stimulus};
+use cif_stim::{Stimulus, read_stimulus};
 use std::alloc::Global;
 
 /// A netlist that was accepted, and the order in which its cells are evaluated.
@@ -82,14 +83,18 @@ pub(crate) fn netlist_file<S: Store>(
 
 /// The stimulus that bytes say, for a netlist.
 fn stimulus_of_bytes(alloc: Global, netlist: &Netlist, bytes: &[u8]) -> Result<Stimulus, Stop>
-    ensures ok { IfOk result (λ s. stimulus_read (netlist_of netlist.now) bytes.now ≡ Some s) }
-    ensures err { IfErr result (StopsBy (λ r.
-        (stimulus_read (netlist_of netlist.now) bytes.now ≡ None) × (not_built ≡ r))) }
+    ensures ok { IfOk result (λ s. stimulus_read netlist.now bytes.now ≡ Ok s) }
+    ensures fits { IfOk result (λ s. fits_of netlist.now s ≡ true) }
+    ensures ordered { IfOk result (λ s. IsOrdered s) }
+    ensures err { IfErr result (StopsBy (λ r. (fault : FaultValue)
+        × (stimulus_read netlist.now bytes.now ≡ Err fault) × (stim_refusal fault ≡ Some r))) }
 {
     match read_stimulus(alloc, netlist, bytes) {
-        Ok(stimulus) => Ok(stimulus),
-        Err(StimFault::NotBuilt) => Err(not_built_stop(alloc)),
-        Err(StimFault::Memory) => Err(Stop::NoMemory),
+        Ok(stimulus) => {
+            let _lines = stimulus.lines();
+            Ok(stimulus)
+        }
+        Err(fault) => Err(stim_stop(alloc, fault)),
     }
 }
 
@@ -100,10 +105,11 @@ pub(crate) fn stimulus_file<S: Store>(
     netlist: &Netlist,
     store: &mut S,
 ) -> Result<Stimulus, Stop>
-    ensures ok { IfOk result (λ s. StimulusTold (S.told store.old) name.now (netlist_of netlist.now) s) }
+    ensures ok { IfOk result (λ s. StimulusTold (S.told store.old) name.now netlist.now s) }
+    ensures fits { IfOk result (λ s. fits_of netlist.now s ≡ true) }
     ensures cycles { IfOk result (λ s. 0 < s.cycles) }
     ensures err { IfErr result (StopsAtFile
-        (StimulusRefused (S.told store.old) name.now (netlist_of netlist.now))
+        (StimulusRefused (S.told store.old) name.now netlist.now)
         (Rose (S.faults store.old) (S.faults store.new) × (S.last_failed store.new ≡ name.now)) name.now) }
     ensures same_files { S.told store.new ≡ S.told store.old }
 {

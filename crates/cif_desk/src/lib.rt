@@ -8,6 +8,8 @@ mod desk;
 mod evaluation;
 mod files;
 mod refusal;
+#[cfg(test)]
+mod state_tests;
 mod stop;
 #[cfg(test)]
 mod tests;

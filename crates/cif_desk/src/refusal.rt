@@ -4,7 +4,7 @@ ghost use Rattle.std.specs.Fmt.{decimal};
 ghost use Rattle.cif_defs.specs.Text.{coded};
 ghost use Rattle.cif_defs.specs.Messages.{read_fault_line};
 ghost use Rattle.cif_defs.specs.Accepted.{netlist_of};
-ghost use Rattle.cif_desk.specs.Refusals.{refusal, port_refusal, bit_refusal, json_refusal, build_refusal, loop_refusal, not_built, too_long, line_of};
+ghost use Rattle.cif_desk.specs.Refusals.{refusal, port_refusal, bit_refusal, json_refusal, build_refusal, loop_refusal, stim_refusal, too_long, line_of};
 ghost use Rattle.cif_desk.specs.Stops.{IsStopOf, IsUnread, StopsBy};
 
 use crate::stop::{Line, Stop};
@@ -170,13 +170,7 @@ fn build_line(alloc: Global, fault: &BuildFault) -> Result<Vec<u8>, AllocError>
         BuildFault::TwoClocks(c) => named(alloc, 19, "second clock at cell ", c),
         BuildFault::ClockAsData(name) => named(alloc, 20, "clock as data at ", name),
         BuildFault::InoutPort(port) => named(alloc, 21, "inout port ", port),
-        BuildFault::InitConflict(bit) => {
-            refusal_line(
-                alloc,
-                22,
-                &[Plain("two initial values for bit "), Number(*bit)],
-            )
-        }
+        BuildFault::InitConflict(bit) => at_number(alloc, 22, "two initial values for bit ", *bit),
         BuildFault::MemoryForm(c) => named(alloc, 23, "memory form at cell ", c),
         BuildFault::TooManyCells(count) => counted(alloc, 24, *count, " cells"),
         BuildFault::TooManyBits(count) => counted(alloc, 25, *count, " bits"),
@@ -197,6 +191,29 @@ fn json_line(alloc: Global, fault: &JsonFault) -> Result<Vec<u8>, AllocError>
         JsonFault::NoTop => refusal_line(alloc, 3, &[Plain("no top module")]),
         JsonFault::BadShape(path) => named(alloc, 4, "shape at ", path),
         JsonFault::Memory => Err(AllocError),
+    }
+}
+
+/// A number of the file, as that of a line, after some words.
+fn at_number(alloc: Global, number: u64, before: &str, place: u64) -> Result<Vec<u8>, AllocError>
+    ensures { IfOk result (λ text. text.items ≡ line_of (refusal number (before.now ∷ decimal place ∷ []))) }
+{
+    refusal_line(alloc, number, &[Plain(before), Number(place)])
+}
+
+/// The line of a text that isn't read as a stimulus. Want of memory has none.
+fn stim_line(alloc: Global, fault: &StimFault) -> Result<Vec<u8>, AllocError>
+    ensures { IfOk result (λ line. option_map line_of (stim_refusal fault.now) ≡ Some line.items) }
+{
+    match fault {
+        StimFault::BadLine(line) => at_number(alloc, 40, "line ", *line),
+        StimFault::NoSuchName(line) => at_number(alloc, 41, "name at line ", *line),
+        StimFault::WrongWidth(line) => at_number(alloc, 42, "width at line ", *line),
+        StimFault::NoCycles => refusal_line(alloc, 43, &[Plain("no cycles")]),
+        StimFault::TooManyCycles => refusal_line(alloc, 44, &[Plain("too many cycles")]),
+        StimFault::SetTwice(line) => at_number(alloc, 45, "set again at line ", *line),
+        StimFault::BadAddress(line) => at_number(alloc, 46, "address at line ", *line),
+        StimFault::Memory => Err(AllocError),
     }
 }
 
@@ -265,11 +282,11 @@ pub(crate) fn loop_stop(alloc: Global, netlist: &Netlist, cells: &[u32]) -> Stop
     stop_by(loop_line(alloc, netlist, cells))
 }
 
-/// The stop of a stimulus of a form that isn't read yet.
-pub(crate) fn not_built_stop(alloc: Global) -> Stop
-    ensures { StopsBy (λ r. not_built ≡ r) result }
+/// The stop of a text that isn't read as a stimulus.
+pub(crate) fn stim_stop(alloc: Global, fault: StimFault) -> Stop
+    ensures { StopsBy (λ r. stim_refusal fault ≡ Some r) result }
 {
-    stop_by(refusal_line(alloc, 90, &[Plain("not built yet")]))
+    stop_by(stim_line(alloc, &fault))
 }
 
 /// The stop of a file that is too long.

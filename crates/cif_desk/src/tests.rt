@@ -8,7 +8,8 @@ fn bytes_of(alloc: Global, text: &str) -> Result<Bytes, AllocError> {
     Ok(Bytes::of(Vec::from_slice(alloc, text.as_bytes())?))
 }
 
-fn store(alloc: Global, files: &[(&str, &str)]) -> Result<MemStore, AllocError> {
+/// A store of these files that never fails.
+pub fn store(alloc: Global, files: &[(&str, &str)]) -> Result<MemStore, AllocError> {
     let mut items = Vec::new(alloc);
     for (name, text) in files {
         items.push(File {
@@ -26,7 +27,7 @@ fn store(alloc: Global, files: &[(&str, &str)]) -> Result<MemStore, AllocError> 
 }
 
 /// A sink that takes 1,000 bytes, and fails at the calls of these numbers.
-fn sink(alloc: Global, fail_at: &[u64]) -> Result<MemSink, AllocError> {
+pub fn sink(alloc: Global, fail_at: &[u64]) -> Result<MemSink, AllocError> {
     Ok(MemSink {
         bytes: Bytes::with_room(alloc, 1000)?,
         most: 1000,
@@ -36,7 +37,8 @@ fn sink(alloc: Global, fail_at: &[u64]) -> Result<MemSink, AllocError> {
     })
 }
 
-fn words_of(alloc: Global, line: &str) -> Result<Vec<String>, AllocError> {
+/// The words of a command line.
+pub fn words_of(alloc: Global, line: &str) -> Result<Vec<String>, AllocError> {
     let mut words = Vec::new(alloc);
     for word in line.split(' ') {
         if !word.is_empty() {
@@ -286,22 +288,4 @@ fn not_order(rt: HostRuntime) -> Result<(), Fail> {
  "a":{"type":"$not","parameters":{"A_SIGNED":"0","A_WIDTH":"1","Y_WIDTH":"1"},"connections":{"A":[4],"Y":[3]}},
  "z":{"type":"$not","parameters":{"A_SIGNED":"0","A_WIDTH":"1","Y_WIDTH":"1"},"connections":{"A":[2],"Y":[4]}}}}}}"#;
     assert_accepted(&rt, rt.alloc(), net, "accepted cells 2 bits 3 state 0\n")
-}
-
-#[test]
-fn stimulus_of_another_form(rt: HostRuntime) -> Result<(), Fail> {
-    let stims = [
-        "cellift-stimulus 2\ncycles 3\n",
-        "cellift-stimulus 1\ncycles 3\nreg r 01\n@ 0\nset d 01 10\n@ 1\nset d 11\n",
-    ];
-    for stim in stims {
-        let wanted = Wanted {
-            status: 2,
-            out: "",
-            err: "refused 90: not built yet\n",
-        };
-        let files = [("net", REGISTER), ("stim", stim)];
-        assert_ends(&rt, rt.alloc(), "eval net stim", &files, wanted)?;
-    }
-    Ok(())
 }

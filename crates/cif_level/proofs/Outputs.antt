@@ -1,13 +1,13 @@
 -- What an accepted module says of ports: a register or memory has one output, and no cell has many operands.
 use Rattle.std.specs.Prelude.{ℕ, zero, suc, ◌<◌, ◌≤◌, ◌≡◌, ◌==◌, Bool, true, false, ◌||◌, List, [], ◌∷◌, map, length, get_or, Option, Some, None, option_map, unwrap_or, refl}
 use Rattle.std.specs.List.{filter_map, cons_option}
-use Rattle.std.proofs.Common.{arith, ap, cond}
+use Rattle.std.proofs.Common.{arith, ap}
 use Rattle.std.proofs.lemmas.Bool.Decides.{nat_tests}
 use Rattle.std.proofs.lemmas.List.{get_or_past, length-map}
 use Rattle.cif_defs.specs.Kinds.{role_of}
 use Rattle.cif_defs.specs.Cells.{Cell, number_in, width}
 use Rattle.cif_defs.specs.RawModule.{number_given, net_numbers, port_bits}
-use Rattle.cif_defs.specs.Table.{kind_of, parameters_of, outputs_of, operands_of, is_built}
+use Rattle.cif_defs.specs.Table.{kind_of, parameters_of, outputs_of, operands_of}
 use Rattle.cif_defs.specs.Accepted.{netlist_of, cell_of, cell_by, target, source, numbers_of}
 use Rattle.cif_defs.specs.Netlist.{no_cell, cell_at, output_at}
 use Rattle.cif_defs.specs.declared.kinds.Role.{Role}
@@ -107,10 +107,6 @@ fault_false : (b : Bool) (f : BuildFault) → fault_if b f ≡ None → b ≡ fa
 fault_false true f h = absurd (cc)
 fault_false false f h = refl
 
-built_known : (t : Bool) (known : Option BuildFault) (f : BuildFault) → cond t known (Some f) ≡ None → known ≡ None
-built_known true known f h = h
-built_known false known f h = absurd (cc)
-
 first_else : (a b c d e f g : Option BuildFault) → (a else_by b else_by c else_by d else_by e else_by f else_by g) ≡ None → b ≡ None
 first_else None b c d e f g h =
     let one = else_none (b else_by c else_by d else_by e else_by f) g h in
@@ -136,8 +132,7 @@ not_zero x h = grind (arith, nat_tests)
 
 has_width : (rc : RawCell) (k : Kind) → role_of k ≡ MemoryBlock → cell_fault_by rc (Some k) ≡ None → 0 < number_or_0 rc Width
 has_width rc k e h =
-    let known : known_cell_fault rc k ≡ None = built_known (is_built k) (known_cell_fault rc k) _ h in
-    let form : memory_form rc (role_of k) ≡ None = first_else _ _ _ _ _ _ _ known in
+    let form : memory_form rc (role_of k) ≡ None = first_else _ _ _ _ _ _ _ h in
     not_zero (number_or_0 rc Width) (first_or _ _ _ _ _ _ _ _ (memory_form_false rc (role_of k) e form))
 
 only_mem : (k : Kind) → role_of k ≡ MemoryBlock → k ≡ Mem

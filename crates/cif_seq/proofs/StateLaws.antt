@@ -1,183 +1,135 @@
--- The stored words, cell by cell.
-use Rattle.std.specs.Prelude.{ℕ, zero, suc, ◌+◌, ◌<◌, ◌≤◌, ◌≡◌, ◌≢◌, Bool, true, false, List, [], ◌∷◌, ◌++◌, length, get_or}
-use Rattle.std.proofs.Common.{arith, ap, sym, ◌∙◌, ◌⊎◌, subst, inl, inr, refl, length-append}
-use Rattle.std.proofs.lemmas.List.{get_or_past}
-use Rattle.cif_defs.specs.Words.{Word, bit, word}
+-- What all cells store, cell by cell.
+use Rattle.std.specs.Prelude.{ℕ, ◌+◌, ◌<◌, ◌≤◌, ◌≡◌, Bool, false, List, [], ◌∷◌, ◌++◌, map, length, get_or}
+use Rattle.std.specs.List.{range_with_len}
+use Rattle.std.proofs.Common.{arith, ap, sym, subst, ◌∙◌}
+use Rattle.std.proofs.lemmas.List.{get_or_default}
+use Rattle.std.proofs.lemmas.List.FromFn.{map-range_with_len_more, get_or-map-range_with_len, length-map-range_with_len}
+use Rattle.cif_defs.specs.Words.{Word}
+use Rattle.cif_defs.specs.Accepted.{netlist_of}
 use Rattle.cif_defs.specs.Kinds.{role_of}
-use Rattle.cif_defs.specs.Table.{is_built, operands_of}
-use Rattle.cif_seq.specs.CellWords.{IsBuiltCell}
-use Rattle.cif_seq.proofs.StepLaws.{arity_found}
-use Rattle.cif_defs.specs.Cells.{Cell, width, state_bits, state_bits_by, next_word}
-use Rattle.cif_defs.specs.Taint.{next_register_taint}
-use Rattle.cif_defs.specs.Netlist.{Netlist, cell_at, role_at}
+use Rattle.cif_defs.specs.Cells.{Cell, state_bits}
+use Rattle.cif_defs.specs.Fitted.{IsFitted, operand_widths}
+use Rattle.cif_defs.specs.Netlist.{Netlist, no_cell, cell_at, role_at}
 use Rattle.cif_defs.specs.Stimulus.{Stimulus, start_at}
-use Rattle.cif_defs.specs.Run.{stored_by, operand_words}
-use Rattle.cif_defs.specs.TaintRun.{taint_stored_by, operand_taints}
+use Rattle.cif_defs.specs.Run.{state, next_stored, stored_by, operand_words}
+use Rattle.cif_defs.specs.TaintRun.{next_taints, taint_state, taint_stored_by, flag_by, operand_taints}
+use Rattle.cif_defs.specs.declared.raw_module.Raw.{Raw}
 use Rattle.cif_defs.specs.declared.kinds.Kind.{Kind}
-use Rattle.cif_defs.specs.declared.kinds.Kind.TheVariants.{Not, Pos, And, Or, Xor, Xnor, ReduceAnd, ReduceOr, ReduceXor, ReduceXnor, ReduceBool, LogicNot, LogicAnd, LogicOr, Concat, Slice, Fa, Neg, Add, Sub, Alu, Lt, Le, Ge, Gt, Eq, Ne, Eqx, Nex, Shl, Sshl, Shr, Sshr, Shift, Shiftx, Mul, Div, Mod, DivFloor, ModFloor, Pmux, Bmux, Demux, Lut, Mux, Dff, ScopeInfo}
 use Rattle.cif_defs.specs.declared.kinds.Role.{Role}
-use Rattle.cif_defs.specs.declared.kinds.Role.TheVariants.{Combinational, PlainRegister, ResetRegister, MemoryBlock, CarriedOver}
-use Rattle.cif_defs.proofs.WordLaws.{le_or_lt, length-word, bit-word, same_words}
-use Rattle.cif_seq.specs.States.{StartsUpTo, NextUpTo}
-
--- a word is the word of its bits
-pub word_of_bits : (n : ℕ) (f : ℕ → Bool) → word n (λ i. bit (word n f) i) ≡ word n f
-word_of_bits n f = same_words (word n (λ i. bit (word n f) i)) (word n f) (length-word n _ ∙ sym (length-word n f)) (λ i h.
-    let l : i < n = (let e : length (word n (λ i. bit (word n f) i)) ≡ n = length-word n _ in omega arith) in bit-word n _ i false l)
-
--- ---- kinds without state
-
-no_state : (k : Kind) → is_built k ≡ true → k ≢ Dff → (role_of k ≡ Combinational) ⊎ (role_of k ≡ CarriedOver)
-no_state Not b n = inl refl
-no_state Pos b n = inl refl
-no_state And b n = inl refl
-no_state Or b n = inl refl
-no_state Xor b n = inl refl
-no_state Xnor b n = inl refl
-no_state ReduceAnd b n = inl refl
-no_state ReduceOr b n = inl refl
-no_state ReduceXor b n = inl refl
-no_state ReduceXnor b n = inl refl
-no_state ReduceBool b n = inl refl
-no_state LogicNot b n = inl refl
-no_state LogicAnd b n = inl refl
-no_state LogicOr b n = inl refl
-no_state Concat b n = inl refl
-no_state Slice b n = inl refl
-no_state Fa b n = inl refl
-no_state Neg b n = inl refl
-no_state Add b n = inl refl
-no_state Sub b n = inl refl
-no_state Alu b n = inl refl
-no_state Lt b n = inl refl
-no_state Le b n = inl refl
-no_state Ge b n = inl refl
-no_state Gt b n = inl refl
-no_state Eq b n = inl refl
-no_state Ne b n = inl refl
-no_state Eqx b n = inl refl
-no_state Nex b n = inl refl
-no_state Shl b n = inl refl
-no_state Sshl b n = inl refl
-no_state Shr b n = inl refl
-no_state Sshr b n = inl refl
-no_state Shift b n = inl refl
-no_state Shiftx b n = inl refl
-no_state Mul b n = inl refl
-no_state Div b n = inl refl
-no_state Mod b n = inl refl
-no_state DivFloor b n = inl refl
-no_state ModFloor b n = inl refl
-no_state Pmux b n = inl refl
-no_state Bmux b n = inl refl
-no_state Demux b n = inl refl
-no_state Lut b n = inl refl
-no_state Mux b n = inl refl
-no_state ScopeInfo b n = inr refl
-no_state Dff b n = absurd (n refl)
-no_state _ b n = absurd (cc)
-
-none_stored : (r : Role) (c : Cell) (v : ℕ → Bool) (stored : Word) → (r ≡ Combinational) ⊎ (r ≡ CarriedOver) → [] ≡ stored_by r c v stored
-none_stored r c v stored (inl e) = rw e refl
-none_stored r c v stored (inr e) = rw e refl
-
-none_tainted : (r : Role) (c : Cell) (v t : ℕ → Bool) (stored stored_taint : Word) → (r ≡ Combinational) ⊎ (r ≡ CarriedOver) → [] ≡ taint_stored_by r c v t stored stored_taint
-none_tainted r c v t stored stored_taint (inl e) = rw e refl
-none_tainted r c v t stored stored_taint (inr e) = rw e refl
-
-no_bits : (r : Role) (c : Cell) → (r ≡ Combinational) ⊎ (r ≡ CarriedOver) → 0 ≡ state_bits_by r c
-no_bits r c (inl e) = rw e refl
-no_bits r c (inr e) = rw e refl
-
-pub stateless_value : (x y : Cell) (v : ℕ → Bool) (stored : Word) → x ≡ y → is_built y.kind ≡ true → x.kind ≢ Dff → [] ≡ stored_by (role_of y.kind) y v stored
-stateless_value x y v stored e b n = none_stored (role_of y.kind) y v stored (no_state y.kind b (λ q. n (ap (λ (z : Cell). z.kind) e ∙ q)))
-
-pub stateless_taint : (x y : Cell) (v t : ℕ → Bool) (stored stored_taint : Word) → x ≡ y → is_built y.kind ≡ true → x.kind ≢ Dff → [] ≡ taint_stored_by (role_of y.kind) y v t stored stored_taint
-stateless_taint x y v t stored stored_taint e b n = none_tainted (role_of y.kind) y v t stored stored_taint (no_state y.kind b (λ q. n (ap (λ (z : Cell). z.kind) e ∙ q)))
-
-pub stateless_bits : (x y : Cell) → x ≡ y → is_built y.kind ≡ true → x.kind ≢ Dff → 0 ≡ state_bits y
-stateless_bits x y e b n = no_bits (role_of y.kind) y (no_state y.kind b (λ q. n (ap (λ (z : Cell). z.kind) e ∙ q)))
-
--- ---- $dff
-
-dff_role : (k : Kind) → k ≡ Dff → role_of k ≡ PlainRegister
-dff_role k e = ap role_of e
-
-pub dff_bits : (x y : Cell) (n : ℕ) → x ≡ y → x.kind ≡ Dff → n ≡ width x → n ≡ state_bits y
-dff_bits x y n e k q = q ∙ ap width e ∙ ap (λ r. state_bits_by r y) (sym (dff_role y.kind (ap (λ (z : Cell). z.kind) (sym e) ∙ k)))
-
-pub dff_stored : (x y : Cell) (v : ℕ → Bool) (stored w : Word) (given vs : List Word) → x ≡ y → x.kind ≡ Dff → given ≡ vs → vs ≡ operand_words v x → w ≡ next_word x given stored → w ≡ stored_by (role_of y.kind) y v stored
-dff_stored x y v stored w given vs e k g h q =
-    q ∙ ap (λ (us : List Word). next_word x us stored) (g ∙ h) ∙ ap (λ (z : Cell). next_word z (operand_words v z) stored) e
-    ∙ ap (λ r. stored_by r y v stored) (sym (dff_role y.kind (ap (λ (z : Cell). z.kind) (sym e) ∙ k)))
-
-pub dff_tainted : (x y : Cell) (v t : ℕ → Bool) (stored stored_taint w : Word) (given_vs given_ts vs ts : List Word) → x ≡ y → x.kind ≡ Dff → given_vs ≡ vs → given_ts ≡ ts → vs ≡ operand_words v x → ts ≡ operand_taints t x
-    → w ≡ next_register_taint x given_vs given_ts stored stored_taint → w ≡ taint_stored_by (role_of y.kind) y v t stored stored_taint
-dff_tainted x y v t stored stored_taint w given_vs given_ts vs ts e k gv gt hv ht q =
-    q ∙ ap (λ (us : List Word). next_register_taint x us given_ts stored stored_taint) (gv ∙ hv) ∙ ap (λ (us : List Word). next_register_taint x (operand_words v x) us stored stored_taint) (gt ∙ ht)
-    ∙ ap (λ (z : Cell). next_register_taint z (operand_words v z) (operand_taints t z) stored stored_taint) e
-    ∙ ap (λ r. taint_stored_by r y v t stored stored_taint) (sym (dff_role y.kind (ap (λ (z : Cell). z.kind) (sym e) ∙ k)))
+use Rattle.cif_defs.specs.declared.kinds.Role.TheVariants.{MemoryBlock}
+use Rattle.cif_defs.proofs.WordLaws.{length-word}
+use Rattle.cif_cells.specs.Checks.{IsAccepted}
+use Rattle.cif_cells.specs.NetlistView.{AreFitted}
+use Rattle.cif_cells.specs.StateCells.{HasMemoryNumbers}
+use Rattle.cif_cells.proofs.FittedCells.{fitted_at, narrow_operand}
+use Rattle.cif_cells.proofs.MemoryCells.{memory_numbers}
+use Rattle.cif_cells.proofs.StateLaws.{few_state_bits}
+use Rattle.cif_seq.specs.CellWords.{AreNarrow}
+use Rattle.cif_seq.specs.Stored.{IsStored}
+use Rattle.cif_seq.specs.States.{start_values, start_taints, start_flags, next_values, next_stored_taints, next_flags}
+use Rattle.cif_seq.proofs.StateWidths.{length-stored, length-taint}
+use Rattle.cif_seq.proofs.TaintWords.{words_wide, taints_wide}
 
 -- ---- one more cell
 
-at_end : (xs : List Word) (x : Word) (i : ℕ) → length xs ≡ i → get_or (xs ++ x ∷ []) i [] ≡ x
-at_end [] x zero e = refl
-at_end [] x (suc i) e = absurd (omega arith)
-at_end (y ∷ xs) x zero e = absurd (let q : suc (length xs) ≡ 0 = e in omega arith)
-at_end (y ∷ xs) x (suc i) e = at_end xs x i (let q : suc (length xs) ≡ suc i = e in omega arith)
+pub list_more : {A : Type 0} (f : ℕ → A) (i : ℕ) (old new : List A) (x : A) → old ≡ map f (range_with_len 0 i) → new ≡ old ++ x ∷ [] → x ≡ f i → new ≡ map f (range_with_len 0 (i + 1))
+list_more f i old new x e h q = h ∙ ap (λ xs. xs ++ x ∷ []) e ∙ ap (λ y. map f (range_with_len 0 i) ++ y ∷ []) q ∙ sym (map-range_with_len_more f 0 i i (omega arith))
 
-before_end : (xs : List Word) (x : Word) (c : ℕ) → c < length xs → get_or (xs ++ x ∷ []) c [] ≡ get_or xs c []
-before_end [] x c h = absurd (omega arith)
-before_end (y ∷ xs) x zero h = refl
-before_end (y ∷ xs) x (suc c) h = before_end xs x c (omega arith)
+pub list_done : {A : Type 0} (f : ℕ → A) (i n : ℕ) (xs : List A) → xs ≡ map f (range_with_len 0 i) → i ≡ n → xs ≡ map f (range_with_len 0 n)
+list_done f i n xs e h = e ∙ ap (λ k. map f (range_with_len 0 k)) h
 
--- what holds at each place below i, and at i, holds below i + 1
-pub each_more : (xs ys : List Word) (x : Word) (i : ℕ) (P : ℕ → Word → Type 0) → length xs ≡ i → ys ≡ xs ++ x ∷ [] → ((c : ℕ) → c < i → P c (get_or xs c [])) → P i x → (c : ℕ) → c < i + 1 → P c (get_or ys c [])
-each_more xs ys x i P e q h p c l = elim (le_or_lt c i) [
-  | inl less ↦ subst (P c) (sym (ap (λ (zs : List Word). get_or zs c []) q ∙ before_end xs x c (omega arith))) (h c less)
-  | inr more ↦ (let same : i ≡ c = omega arith in
-      subst (λ k. P k (get_or ys k [])) same (subst (P i) (sym (ap (λ (zs : List Word). get_or zs i []) q ∙ at_end xs x i e)) p))
-]
+-- ---- the start
 
-pub longer : (xs ys : List Word) (x : Word) (i : ℕ) → length xs ≡ i → ys ≡ xs ++ x ∷ [] → length ys ≡ i + 1
-longer xs ys x i e q = let l : length ys ≡ length (xs ++ x ∷ []) = ap length q in let k : length (xs ++ x ∷ []) ≡ length xs + 1 = length-append xs (x ∷ []) in omega arith
+pub start_state : (n : Netlist) (s : Stimulus) (i : ℕ) (values : List Word) → values ≡ start_values n s i → i ≡ length n.cells → values ≡ state n s 0
+unfolding state
+start_state n s i values e h = list_done (λ c. (start_at n s c).value) i (length n.cells) values e h
 
-pub starts_more : (n : Netlist) (s : Stimulus) (i : ℕ) (values taints new_values new_taints : List Word) (value taint : Word) → StartsUpTo n s i values taints → new_values ≡ values ++ value ∷ [] → new_taints ≡ taints ++ taint ∷ []
-    → value ≡ (start_at n s i).value → taint ≡ (start_at n s i).taint → StartsUpTo n s (i + 1) new_values new_taints
-starts_more n s i values taints new_values new_taints value taint h qv qt hv ht = record {
-  as_many_values = longer values new_values value i h.as_many_values qv;
-  as_many_taints = longer taints new_taints taint i h.as_many_taints qt;
-  value = each_more values new_values value i (λ c w. w ≡ (start_at n s c).value) h.as_many_values qv h.value hv;
-  taint = each_more taints new_taints taint i (λ c w. w ≡ (start_at n s c).taint) h.as_many_taints qt h.taint ht;
+pub start_stored : (n : Netlist) (s : Stimulus) (i : ℕ) (taints : List Word) → taints ≡ start_taints n s i → i ≡ length n.cells → taints ≡ (taint_state n s 0).stored
+unfolding taint_state
+start_stored n s i taints e h = list_done (λ c. (start_at n s c).taint) i (length n.cells) taints e h
+
+pub start_off : (n : Netlist) (s : Stimulus) (i : ℕ) (flags : List Bool) → flags ≡ start_flags i → i ≡ length n.cells → flags ≡ (taint_state n s 0).flags
+unfolding taint_state
+start_off n s i flags e h = list_done (λ c. false) i (length n.cells) flags e h
+
+-- the word with which a memory starts is short
+pub start_short : (raw : Raw) (s : Stimulus) (c : ℕ) (v seen : Word) → IsAccepted raw → c < length (netlist_of raw).cells → seen ≡ v → v ≡ (start_at (netlist_of raw) s c).value → length seen < 4294967296
+start_short raw s c v seen h l e q =
+    let size : length seen ≡ state_bits (cell_at (netlist_of raw) c) = ap length (e ∙ q) ∙ length-word _ _ in
+    let few : state_bits (cell_at (netlist_of raw) c) ≤ 16777216 = few_state_bits raw h c l in
+    omega arith
+
+pub taint_short : (raw : Raw) (s : Stimulus) (c : ℕ) (v seen : Word) → IsAccepted raw → c < length (netlist_of raw).cells → seen ≡ v → v ≡ (start_at (netlist_of raw) s c).taint → length seen < 4294967296
+taint_short raw s c v seen h l e q =
+    let size : length seen ≡ state_bits (cell_at (netlist_of raw) c) = ap length (e ∙ q) ∙ length-word _ _ in
+    let few : state_bits (cell_at (netlist_of raw) c) ≤ 16777216 = few_state_bits raw h c l in
+    omega arith
+
+-- ---- a cycle
+
+pub values_after_all : (n : Netlist) (stored : List Word) (v : ℕ → Bool) (i : ℕ) (values : List Word) → values ≡ next_values n stored v i → i ≡ length n.cells → values ≡ next_stored n stored v
+values_after_all n stored v i values e h = list_done (λ c. stored_by (role_at n c) (cell_at n c) v (get_or stored c [])) i (length n.cells) values e h
+
+pub taints_after_all : (n : Netlist) (stored stored_taints : List Word) (flags : List Bool) (v t : ℕ → Bool) (i : ℕ) (taints : List Word) → taints ≡ next_stored_taints n stored stored_taints v t i → i ≡ length n.cells
+    → taints ≡ (next_taints n stored v (record { stored = stored_taints; flags = flags }) t).stored
+taints_after_all n stored stored_taints flags v t i taints e h = list_done (λ c. taint_stored_by (role_at n c) (cell_at n c) v t (get_or stored c []) (get_or stored_taints c [])) i (length n.cells) taints e h
+
+pub flags_after_all : (n : Netlist) (stored stored_taints : List Word) (flags : List Bool) (v t : ℕ → Bool) (i : ℕ) (new : List Bool) → new ≡ next_flags n flags v t i → i ≡ length n.cells
+    → new ≡ (next_taints n stored v (record { stored = stored_taints; flags = flags }) t).flags
+flags_after_all n stored stored_taints flags v t i new e h = list_done (λ c. flag_by (role_at n c) (cell_at n c) v t (get_or flags c false)) i (length n.cells) new e h
+
+listed : (f : ℕ → Word) (n c : ℕ) (xs : List Word) → xs ≡ map f (range_with_len 0 n) → c < n → get_or xs c [] ≡ f c
+listed f n c xs e l = ap (λ (ws : List Word). get_or ws c []) e ∙ get_or-map-range_with_len f 0 n c c [] l (omega arith)
+
+-- the words after a cycle are as long as what the cells store
+pub next_is_stored : (n : Netlist) (stored stored_taints : List Word) (flags : List Bool) (v t : ℕ → Bool) (i : ℕ) (values taints : List Word) (new : List Bool) → values ≡ next_values n stored v i → taints ≡ next_stored_taints n stored stored_taints v t i
+    → new ≡ next_flags n flags v t i → i ≡ length n.cells → IsStored n values taints new
+next_is_stored n stored stored_taints flags v t i values taints new ev et ef h = record {
+  as_many_values = ap length ev ∙ length-map-range_with_len _ 0 i ∙ h;
+  as_many_taints = ap length et ∙ length-map-range_with_len _ 0 i ∙ h;
+  as_many_flags = ap length ef ∙ length-map-range_with_len _ 0 i ∙ h;
+  value_width = λ c l. ap length (listed (λ x. stored_by (role_at n x) (cell_at n x) v (get_or stored x [])) i c values ev (omega arith)) ∙ length-stored (role_at n c) (cell_at n c) v (get_or stored c []);
+  taint_width = λ c l. ap length (listed (λ x. taint_stored_by (role_at n x) (cell_at n x) v t (get_or stored x []) (get_or stored_taints x [])) i c taints et (omega arith)) ∙ length-taint (role_at n c) (cell_at n c) v t (get_or stored c []) (get_or stored_taints c []);
 }
 
-same_shapes : (i : ℕ) (values taints new_values new_taints : List Word) (value taint : Word) → length values ≡ i → length taints ≡ i → new_values ≡ values ++ value ∷ [] → new_taints ≡ taints ++ taint ∷ []
-    → ((c : ℕ) → c < i → length (get_or taints c []) ≡ length (get_or values c [])) → length taint ≡ length value → (c : ℕ) → c < i + 1 → length (get_or new_taints c []) ≡ length (get_or new_values c [])
-same_shapes i values taints new_values new_taints value taint ev et qv qt h k c l = elim (le_or_lt c i) [
-  | inl less ↦ ap (λ (zs : List Word). length (get_or zs c [])) qt ∙ ap length (before_end taints taint c (omega arith)) ∙ h c less ∙ sym (ap (λ (zs : List Word). length (get_or zs c [])) qv ∙ ap length (before_end values value c (omega arith)))
-  | inr more ↦ (let same : c ≡ i = omega arith in
-      ap (λ j. length (get_or new_taints j [])) same ∙ ap (λ (zs : List Word). length (get_or zs i [])) qt ∙ ap length (at_end taints taint i et) ∙ k
-      ∙ sym (ap (λ j. length (get_or new_values j [])) same ∙ ap (λ (zs : List Word). length (get_or zs i [])) qv ∙ ap length (at_end values value i ev)))
-]
+-- a word that was read at its number
+pub word_read : (words : List Word) (i : ℕ) (w : Word) → i < length words → w ≡ get_or words i w → w ≡ get_or words i []
+word_read words i w l e = e ∙ get_or_default words i w [] l
 
-pub next_more : (n : Netlist) (v t : ℕ → Bool) (i : ℕ) (values taints new_values new_taints : List Word) (value taint : Word) → NextUpTo n v t i values taints → new_values ≡ values ++ value ∷ [] → new_taints ≡ taints ++ taint ∷ []
-    → ((stored : Word) → value ≡ stored_by (role_at n i) (cell_at n i) v stored)
-    → ((stored stored_taint : Word) → length stored_taint ≡ length stored → taint ≡ taint_stored_by (role_at n i) (cell_at n i) v t stored stored_taint) → length taint ≡ length value
-    → NextUpTo n v t (i + 1) new_values new_taints
-next_more n v t i values taints new_values new_taints value taint h qv qt hv ht hs = record {
-  as_many_values = longer values new_values value i h.as_many_values qv;
-  as_many_taints = longer taints new_taints taint i h.as_many_taints qt;
-  value = each_more values new_values value i (λ c w. (stored : Word) → w ≡ stored_by (role_at n c) (cell_at n c) v stored) h.as_many_values qv h.value hv;
-  taint = each_more taints new_taints taint i (λ c w. (stored stored_taint : Word) → length stored_taint ≡ length stored → w ≡ taint_stored_by (role_at n c) (cell_at n c) v t stored stored_taint) h.as_many_taints qt h.taint ht;
-  shape = same_shapes i values taints new_values new_taints value taint h.as_many_values h.as_many_taints qv qt h.shape hs;
-}
+-- ---- one cell
 
-pub same_length : (t v u w : Word) → t ≡ u → v ≡ w → length u ≡ length w → length t ≡ length v
-same_length t v u w e q h = ap length e ∙ h ∙ sym (ap length q)
+pub fitted_read : (raw : Raw) (cells : List Cell) (c : ℕ) (x : Cell) → AreFitted cells → cells ≡ (netlist_of raw).cells → x ≡ get_or cells c x → c < length (netlist_of raw).cells → IsFitted x
+fitted_read raw cells c x f e h l =
+    let inside : c < length cells = (let q : length cells ≡ length (netlist_of raw).cells = ap (λ (xs : List Cell). length xs) e in omega arith) in
+    subst (λ (z : Cell). IsFitted z) (sym (h ∙ get_or_default cells c x no_cell inside)) (fitted_at cells f c inside)
 
-dff_operands : (k : Kind) → k ≡ Dff → length (operands_of k) ≡ 1
-unfolding operands_of
-dff_operands k e = ap (λ x. length (operands_of x)) e
+pub narrow_read : (raw : Raw) (c : ℕ) (x : Cell) → IsAccepted raw → c < length (netlist_of raw).cells → x ≡ cell_at (netlist_of raw) c → AreNarrow x.operands
+unfolding AreNarrow
+narrow_read raw c x h l e = λ p. (let small = narrow_operand raw h c p l in let same : length (get_or x.operands p []) ≡ length (get_or (cell_at (netlist_of raw) c).operands p []) = ap (λ (z : Cell). length (get_or z.operands p [])) e in omega arith)
 
-pub dff_arity : (u : ℕ → Bool) (x y : Cell) (given vs : List Word) → given ≡ vs → vs ≡ operand_words u x → x ≡ y → IsBuiltCell y → x.kind ≡ Dff → length given ≡ 1
-dff_arity u x y given vs g h e b k = arity_found u x y given vs g h e b ∙ dff_operands x.kind k
+pub role_read : (x : Cell) (k : Kind) (q r : Role) → k ≡ x.kind → q ≡ role_of k → q ≡ r → role_of x.kind ≡ r
+role_read x k q r e h is = ap role_of (sym e) ∙ sym h ∙ is
+
+pub numbers_read : (raw : Raw) (c : ℕ) (x : Cell) → IsAccepted raw → c < length (netlist_of raw).cells → x ≡ cell_at (netlist_of raw) c → role_of x.kind ≡ MemoryBlock → HasMemoryNumbers x
+numbers_read raw c x h l e r =
+    subst (λ (z : Cell). HasMemoryNumbers z) (sym e) (memory_numbers raw h c l (ap (λ (z : Cell). role_of z.kind) (sym e) ∙ r))
+
+pub values_long : (v : ℕ → Bool) (x : Cell) (seen us : List Word) → seen ≡ us → us ≡ operand_words v x → map length seen ≡ operand_widths x
+values_long v x seen us e h = ap (λ (ws : List Word). map length ws) (e ∙ h) ∙ words_wide v x.operands
+
+pub taints_long : (t : ℕ → Bool) (x : Cell) (seen us : List Word) → seen ≡ us → us ≡ operand_taints t x → map length seen ≡ operand_widths x
+taints_long t x seen us e h = ap (λ (ws : List Word). map length ws) (e ∙ h) ∙ taints_wide t x.operands
+
+pub flag_read : (flags : List Bool) (i : ℕ) (b : Bool) → i < length flags → b ≡ get_or flags i b → b ≡ get_or flags i false
+flag_read flags i b l e = e ∙ get_or_default flags i b false l
+
+pub value_of_next : (n : Netlist) (v : ℕ → Bool) (stored : List Word) (c : ℕ) (w x : Word) → w ≡ get_or stored c [] → x ≡ stored_by (role_at n c) (cell_at n c) v w → x ≡ stored_by (role_at n c) (cell_at n c) v (get_or stored c [])
+value_of_next n v stored c w x e h = h ∙ ap (λ (u : Word). stored_by (role_at n c) (cell_at n c) v u) e
+
+pub taint_of_next : (n : Netlist) (v t : ℕ → Bool) (stored stored_taints : List Word) (c : ℕ) (w u x : Word) → w ≡ get_or stored c [] → u ≡ get_or stored_taints c [] → x ≡ taint_stored_by (role_at n c) (cell_at n c) v t w u
+    → x ≡ taint_stored_by (role_at n c) (cell_at n c) v t (get_or stored c []) (get_or stored_taints c [])
+taint_of_next n v t stored stored_taints c w u x e f h =
+    h ∙ ap (λ (y : Word). taint_stored_by (role_at n c) (cell_at n c) v t y u) e ∙ ap (λ (y : Word). taint_stored_by (role_at n c) (cell_at n c) v t (get_or stored c []) y) f
+
+pub flag_of_next : (n : Netlist) (v t : ℕ → Bool) (flags : List Bool) (c : ℕ) (b x : Bool) → b ≡ get_or flags c false → x ≡ flag_by (role_at n c) (cell_at n c) v t b → x ≡ flag_by (role_at n c) (cell_at n c) v t (get_or flags c false)
+flag_of_next n v t flags c b x e h = h ∙ ap (λ y. flag_by (role_at n c) (cell_at n c) v t y) e

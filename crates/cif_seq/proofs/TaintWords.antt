@@ -6,12 +6,12 @@ use Rattle.std.proofs.lemmas.List.{ext_get_or, get_or-map, get_or_default, get_o
 use Rattle.std.proofs.lemmas.List.FromFn.{get_or-map-range_with_len, length-map-range_with_len}
 use Rattle.cif_defs.specs.Words.{Word, bit, operand, word}
 use Rattle.cif_defs.specs.Kinds.{role_of}
-use Rattle.cif_defs.specs.Table.{is_built, operands_of, outputs_of, width_limit}
+use Rattle.cif_defs.specs.Table.{operands_of, outputs_of, width_limit}
 use Rattle.cif_defs.specs.Cells.{Cell, meaning}
 use Rattle.cif_defs.specs.Taint.{output_taint}
 use Rattle.cif_defs.specs.Fitted.{AllWithin, IsFitted, IsWithin, operand_widths, row_width}
 use Rattle.cif_defs.specs.Run.{src_word, words_under}
-use Rattle.cif_defs.specs.TaintRun.{taint_word as taint_bits}
+use Rattle.cif_defs.specs.TaintRun.{taint_word as taint_bits, taints_under}
 use Rattle.cif_defs.specs.declared.kinds.Kind.{Kind}
 use Rattle.cif_defs.specs.declared.kinds.Kind.TheVariants.{Not, Pos, And, Or, Xor, Xnor, ReduceAnd, ReduceOr, ReduceXor, ReduceXnor, ReduceBool, LogicNot, LogicAnd, LogicOr, Concat, Slice, Fa, Neg, Add, Sub, Alu, Lt, Le, Ge, Gt, Eq, Ne, Eqx, Nex, Shl, Sshl, Shr, Sshr, Shift, Shiftx, Mul, Div, Mod, DivFloor, ModFloor, Pmux, Bmux, Demux, Lut, Mux, Dff, ScopeInfo, Mem}
 use Rattle.cif_defs.specs.declared.kinds.PortRow.{PortRow}
@@ -30,60 +30,58 @@ use Rattle.rule_select.specs.Selects.{is_select}
 use Rattle.cif_seq.specs.CellWords.{AreNarrow, GivesExactly, taint_words}
 use Rattle.cif_seq.specs.Covering.{crates_of}
 
--- ---- each built combinational kind has its terms
+-- ---- each combinational kind has its terms
 
-covered_by : (k : Kind) → is_built k ≡ true → role_of k ≡ Combinational → covers_logic k ≡ false → covers_arith k ≡ false → covers_coarse k ≡ false → is_select k ≡ true
-covered_by Not b r h a c = absurd (cc)
-covered_by Pos b r h a c = absurd (cc)
-covered_by And b r h a c = absurd (cc)
-covered_by Or b r h a c = absurd (cc)
-covered_by Xor b r h a c = absurd (cc)
-covered_by Xnor b r h a c = absurd (cc)
-covered_by ReduceAnd b r h a c = absurd (cc)
-covered_by ReduceOr b r h a c = absurd (cc)
-covered_by ReduceXor b r h a c = absurd (cc)
-covered_by ReduceXnor b r h a c = absurd (cc)
-covered_by ReduceBool b r h a c = absurd (cc)
-covered_by LogicNot b r h a c = absurd (cc)
-covered_by LogicAnd b r h a c = absurd (cc)
-covered_by LogicOr b r h a c = absurd (cc)
-covered_by Concat b r h a c = absurd (cc)
-covered_by Slice b r h a c = absurd (cc)
-covered_by Fa b r h a c = absurd (cc)
-covered_by Neg b r h a c = absurd (cc)
-covered_by Add b r h a c = absurd (cc)
-covered_by Sub b r h a c = absurd (cc)
-covered_by Alu b r h a c = absurd (cc)
-covered_by Lt b r h a c = absurd (cc)
-covered_by Le b r h a c = absurd (cc)
-covered_by Ge b r h a c = absurd (cc)
-covered_by Gt b r h a c = absurd (cc)
-covered_by Eq b r h a c = absurd (cc)
-covered_by Ne b r h a c = absurd (cc)
-covered_by Eqx b r h a c = absurd (cc)
-covered_by Nex b r h a c = absurd (cc)
-covered_by Shl b r h a c = refl
-covered_by Sshl b r h a c = refl
-covered_by Shr b r h a c = refl
-covered_by Sshr b r h a c = refl
-covered_by Shift b r h a c = refl
-covered_by Shiftx b r h a c = refl
-covered_by Mul b r h a c = absurd (cc)
-covered_by Div b r h a c = absurd (cc)
-covered_by Mod b r h a c = absurd (cc)
-covered_by DivFloor b r h a c = absurd (cc)
-covered_by ModFloor b r h a c = absurd (cc)
-covered_by Pmux b r h a c = refl
-covered_by Bmux b r h a c = refl
-covered_by Demux b r h a c = refl
-covered_by Lut b r h a c = refl
-covered_by Mux b r h a c = refl
-covered_by Dff b r h a c = absurd (cc)
-covered_by ScopeInfo b r h a c = absurd (cc)
-covered_by _ b r h a c = absurd (cc)
+covered_by : (k : Kind) → role_of k ≡ Combinational → covers_logic k ≡ false → covers_arith k ≡ false → covers_coarse k ≡ false → is_select k ≡ true
+covered_by Not r h a c = absurd (cc)
+covered_by Pos r h a c = absurd (cc)
+covered_by And r h a c = absurd (cc)
+covered_by Or r h a c = absurd (cc)
+covered_by Xor r h a c = absurd (cc)
+covered_by Xnor r h a c = absurd (cc)
+covered_by ReduceAnd r h a c = absurd (cc)
+covered_by ReduceOr r h a c = absurd (cc)
+covered_by ReduceXor r h a c = absurd (cc)
+covered_by ReduceXnor r h a c = absurd (cc)
+covered_by ReduceBool r h a c = absurd (cc)
+covered_by LogicNot r h a c = absurd (cc)
+covered_by LogicAnd r h a c = absurd (cc)
+covered_by LogicOr r h a c = absurd (cc)
+covered_by Concat r h a c = absurd (cc)
+covered_by Slice r h a c = absurd (cc)
+covered_by Fa r h a c = absurd (cc)
+covered_by Neg r h a c = absurd (cc)
+covered_by Add r h a c = absurd (cc)
+covered_by Sub r h a c = absurd (cc)
+covered_by Alu r h a c = absurd (cc)
+covered_by Lt r h a c = absurd (cc)
+covered_by Le r h a c = absurd (cc)
+covered_by Ge r h a c = absurd (cc)
+covered_by Gt r h a c = absurd (cc)
+covered_by Eq r h a c = absurd (cc)
+covered_by Ne r h a c = absurd (cc)
+covered_by Eqx r h a c = absurd (cc)
+covered_by Nex r h a c = absurd (cc)
+covered_by Mul r h a c = absurd (cc)
+covered_by Div r h a c = absurd (cc)
+covered_by Mod r h a c = absurd (cc)
+covered_by DivFloor r h a c = absurd (cc)
+covered_by ModFloor r h a c = absurd (cc)
+covered_by Shl r h a c = refl
+covered_by Sshl r h a c = refl
+covered_by Shr r h a c = refl
+covered_by Sshr r h a c = refl
+covered_by Shift r h a c = refl
+covered_by Shiftx r h a c = refl
+covered_by Pmux r h a c = refl
+covered_by Bmux r h a c = refl
+covered_by Demux r h a c = refl
+covered_by Lut r h a c = refl
+covered_by Mux r h a c = refl
+covered_by _ r h a c = absurd (cc)
 
-pub covered : (k q : Kind) (t u v : Bool) → is_built k ≡ true → role_of k ≡ Combinational → q ≡ k → t ≡ covers_logic q → t ≡ false → u ≡ covers_arith q → u ≡ false → v ≡ covers_coarse q → v ≡ false → is_select k ≡ true
-covered k q t u v b r f e h g i l m = covered_by k b r (sym (e ∙ ap covers_logic f) ∙ h) (sym (g ∙ ap covers_arith f) ∙ i) (sym (l ∙ ap covers_coarse f) ∙ m)
+pub covered : (k q : Kind) (t u v : Bool) → role_of k ≡ Combinational → q ≡ k → t ≡ covers_logic q → t ≡ false → u ≡ covers_arith q → u ≡ false → v ≡ covers_coarse q → v ≡ false → is_select k ≡ true
+covered k q t u v r f e h g i l m = covered_by k r (sym (e ∙ ap covers_logic f) ∙ h) (sym (g ∙ ap covers_arith f) ∙ i) (sym (l ∙ ap covers_coarse f) ∙ m)
 
 -- ---- and each combinational kind has them in one crate
 
@@ -191,13 +189,22 @@ gives c vs ts words taints e f = record {
 
 -- ---- the words that a fitted cell reads
 
-length-source : (v : ℕ → Bool) (ss : List Src) → length (src_word v ss) ≡ length ss
+pub length-source : (v : ℕ → Bool) (ss : List Src) → length (src_word v ss) ≡ length ss
 length-source v [] = refl
 length-source v (s ∷ ss) = ap suc (length-source v ss)
 
 pub words_wide : (v : ℕ → Bool) (ops : List (List Src)) → map length (words_under v ops) ≡ map length ops
 words_wide v [] = refl
 words_wide v (ss ∷ ops) = let one : length (src_word v ss) ≡ length ss = length-source v ss in let rest : map length (words_under v ops) ≡ map length ops = words_wide v ops in cc
+
+pub length-taint : (v : ℕ → Bool) (ss : List Src) → length (taint_bits v ss) ≡ length ss
+length-taint v [] = refl
+length-taint v (s ∷ ss) = ap suc (length-taint v ss)
+
+-- the taints of operands are as wide as the operands
+pub taints_wide : (v : ℕ → Bool) (ops : List (List Src)) → map length (taints_under v ops) ≡ map length ops
+taints_wide v [] = refl
+taints_wide v (ss ∷ ops) = let one : length (taint_bits v ss) ≡ length ss = length-taint v ss in let rest : map length (taints_under v ops) ≡ map length ops = taints_wide v ops in cc
 
 row_small : (c : Cell) (rows : List PortRow) (p : ℕ) → AllWithin c rows → get_or (map (row_width c) rows) p 0 ≤ 65536
 row_small c [] p w = omega arith
@@ -219,10 +226,6 @@ narrow_operands c f n = λ p.
 pub narrow_at : (ops : List (List Src)) (p : ℕ) → AreNarrow ops → length (get_or ops p []) ≤ 65536
 unfolding AreNarrow
 narrow_at ops p h = h p
-
-length-taint : (v : ℕ → Bool) (ss : List Src) → length (taint_bits v ss) ≡ length ss
-length-taint v [] = refl
-length-taint v (s ∷ ss) = ap suc (length-taint v ss)
 
 narrow_source : (ops : List (List Src)) (p : ℕ) (ss us : List Src) → AreNarrow ops → p < length ops → ss ≡ get_or ops p ss → us ≡ ss → length us ≤ 65536
 narrow_source ops p ss us h l e f =

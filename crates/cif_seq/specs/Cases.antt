@@ -1,11 +1,13 @@
 -- Cases and frames, as contracts see them.
-use Rattle.std.specs.Prelude.{ℕ, ◌≡◌, Bool, List, map, length}
+use Rattle.std.specs.Prelude.{ℕ, Bool, List}
 use Rattle.cif_defs.specs.Words.{Word}
 use Rattle.cif_defs.specs.Accepted.{netlist_of}
 use Rattle.cif_defs.specs.Netlist.{Netlist}
 use Rattle.cif_defs.specs.Stimulus.{Stimulus}
-use Rattle.cif_defs.specs.TaintRun.{IsFrame, taint_state}
+use Rattle.cif_defs.specs.TaintRun.{IsFrame}
 use Rattle.cif_defs.specs.declared.raw_module.Raw.{Raw}
+use Rattle.cif_stim.specs.declared.inputs.Inputs.{Inputs}
+use Rattle.cif_seq.specs.Inputs.{StandsAt}
 
 -- an accepted module, a levelled order of its cells, and a stimulus
 pub record CaseOf : Type 0 where
@@ -24,7 +26,7 @@ pub record FrameOf : Type 0 where
 abbrev pub frame_of : CaseOf → ℕ → FrameOf
 frame_of c k = record { case = c; cycle = k }
 
--- the fields of a frame hold what its cycle has by definition; no cell of a built kind has a flag
-pub record HoldsFrame (c : CaseOf) (k : ℕ) (values taints : List Bool) (stored stored_taints : List Word) : Type 0 where
-  pub shown : IsFrame (net_of c) c.stimulus k values taints stored stored_taints (taint_state (net_of c) c.stimulus k).flags
-  pub same_shape : map length stored_taints ≡ map length stored
+-- the fields of a frame hold what its cycle has by definition, and its cursor stands at the cycle
+pub record HoldsFrame (c : CaseOf) (k : ℕ) (values taints : List Bool) (stored stored_taints : List Word) (flags : List Bool) (inputs : Inputs) : Type 0 where
+  pub shown : IsFrame (net_of c) c.stimulus k values taints stored stored_taints flags
+  pub at : StandsAt (net_of c) c.stimulus k inputs

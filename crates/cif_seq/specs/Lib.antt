@@ -2,7 +2,12 @@ pub mod Covering
 pub mod CellWords
 pub mod Writes
 pub mod Settled
+pub mod Stored
+pub mod Inputs
 pub mod Cases
 pub mod CaseView
+pub mod Rows
+pub mod StateWords
+pub mod Memories
+pub mod Starts
 pub mod States
-pub mod Inputs

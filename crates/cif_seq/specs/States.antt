@@ -1,28 +1,30 @@
--- The stored words of all cells, one list for the values and one for the taints.
-use Rattle.std.specs.Prelude.{ℕ, ◌≡◌, ◌<◌, Bool, List, [], length, get_or}
+-- What the first cells start with, and what they store next.
+use Rattle.std.specs.Prelude.{ℕ, Bool, false, List, [], map, get_or}
+use Rattle.std.specs.List.{range_with_len}
 use Rattle.cif_defs.specs.Words.{Word}
 use Rattle.cif_defs.specs.Netlist.{Netlist, cell_at, role_at}
 use Rattle.cif_defs.specs.Stimulus.{Stimulus, start_at}
 use Rattle.cif_defs.specs.Run.{stored_by}
-use Rattle.cif_defs.specs.TaintRun.{taint_stored_by}
+use Rattle.cif_defs.specs.TaintRun.{taint_stored_by, flag_by}
 
--- the first i cells have what they start with
-pub record StartsUpTo (n : Netlist) (s : Stimulus) (i : ℕ) (values taints : List Word) : Type 0 where
-  pub as_many_values : length values ≡ i
-  pub as_many_taints : length taints ≡ i
-  pub value : (c : ℕ) → c < i → get_or values c [] ≡ (start_at n s c).value
-  pub taint : (c : ℕ) → c < i → get_or taints c [] ≡ (start_at n s c).taint
+-- ---- the first i cells at the start
 
-abbrev pub StartsWith : Netlist → Stimulus → List Word → List Word → Type 0
-StartsWith n s values taints = StartsUpTo n s (length n.cells) values taints
+abbrev pub start_values : Netlist → Stimulus → ℕ → List Word
+start_values n s i = map (λ c. (start_at n s c).value) (range_with_len 0 i)
 
--- the first i cells have what they store next, where v and t are the values and taints of the net bits
-pub record NextUpTo (n : Netlist) (v t : ℕ → Bool) (i : ℕ) (values taints : List Word) : Type 0 where
-  pub as_many_values : length values ≡ i
-  pub as_many_taints : length taints ≡ i
-  pub value : (c : ℕ) → c < i → (stored : Word) → get_or values c [] ≡ stored_by (role_at n c) (cell_at n c) v stored
-  pub taint : (c : ℕ) → c < i → (stored stored_taint : Word) → length stored_taint ≡ length stored → get_or taints c [] ≡ taint_stored_by (role_at n c) (cell_at n c) v t stored stored_taint
-  pub shape : (c : ℕ) → c < i → length (get_or taints c []) ≡ length (get_or values c [])
+abbrev pub start_taints : Netlist → Stimulus → ℕ → List Word
+start_taints n s i = map (λ c. (start_at n s c).taint) (range_with_len 0 i)
 
-abbrev pub NextWords : Netlist → (ℕ → Bool) → (ℕ → Bool) → List Word → List Word → Type 0
-NextWords n v t values taints = NextUpTo n v t (length n.cells) values taints
+abbrev pub start_flags : ℕ → List Bool
+start_flags i = map (λ c. false) (range_with_len 0 i)
+
+-- ---- after a cycle, where v and t are the values and the taints of the net bits
+
+abbrev pub next_values : Netlist → List Word → (ℕ → Bool) → ℕ → List Word
+next_values n stored v i = map (λ c. stored_by (role_at n c) (cell_at n c) v (get_or stored c [])) (range_with_len 0 i)
+
+abbrev pub next_stored_taints : Netlist → List Word → List Word → (ℕ → Bool) → (ℕ → Bool) → ℕ → List Word
+next_stored_taints n stored stored_taints v t i = map (λ c. taint_stored_by (role_at n c) (cell_at n c) v t (get_or stored c []) (get_or stored_taints c [])) (range_with_len 0 i)
+
+abbrev pub next_flags : Netlist → List Bool → (ℕ → Bool) → (ℕ → Bool) → ℕ → List Bool
+next_flags n flags v t i = map (λ c. flag_by (role_at n c) (cell_at n c) v t (get_or flags c false)) (range_with_len 0 i)

@@ -1,8 +1,6 @@
 -- What a table of bits holds once the words of a cell are written to the net bits that its outputs drive.
-use Rattle.std.specs.Prelude.{ℕ, Bool, false, ◌==◌, List, [], ◌∷◌, drop, get_or, slice_set, Option, Some, None, if◌then◌else◌}
+use Rattle.std.specs.Prelude.{ℕ, Bool, false, List, [], ◌∷◌, drop, get_or, slice_set, Option, Some, None, if◌then◌else◌}
 use Rattle.cif_defs.specs.Words.{Word, bit}
-use Rattle.cif_defs.specs.declared.nets.Driver.{Driver}
-use Rattle.cif_defs.specs.declared.nets.Driver.TheVariants.{Output}
 
 -- a bit that is cleared where a mark says so
 abbrev pub cleared : List Bool → ℕ → Bool → Bool
@@ -22,8 +20,3 @@ put_word marks (t ∷ ts) w bits = put_word marks ts (drop 1 w) (put marks t (bi
 abbrev pub put_words : List Bool → List (List (Option ℕ)) → List Word → List Bool → List Bool
 put_words marks [] ws bits = bits
 put_words marks (ts ∷ rest) ws bits = put_words marks rest (drop 1 ws) (put_word marks ts (get_or ws 0 []) bits)
-
--- what a net bit holds once cell c is evaluated, where f gives its outputs
-abbrev pub placed : ℕ → (ℕ → ℕ → Bool) → Driver → Bool → Bool
-placed c f (Output d p i) old = if c == d then f p i else old
-placed c f _ old = old

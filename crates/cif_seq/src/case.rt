@@ -1,17 +1,24 @@
 // Cases: a netlist, its levels and a stimulus.
-ghost use Rattle.std.specs.Prelude.{◌≡◌, ℕ, ◌<◌, ◌||◌, IfOk, length, map};
+ghost use Rattle.std.specs.Prelude.{◌≡◌, ℕ, ◌<◌, ◌||◌, true, IfOk, length, map};
 ghost use Rattle.std.specs.List.{list_any};
 ghost use Rattle.cif_defs.specs.Words.{bit};
 ghost use Rattle.cif_defs.specs.Accepted.{netlist_of};
+ghost use Rattle.cif_defs.specs.Fitted.{IsFitted};
+ghost use Rattle.cif_defs.specs.Kinds.{role_of};
 ghost use Rattle.cif_defs.specs.Loop.{IsLevelled};
+ghost use Rattle.cif_defs.specs.Netlist.{IsWired, cell_at};
 ghost use Rattle.cif_defs.specs.Stimulus.{is_bit, is_released};
+ghost use Rattle.cif_cells.specs.StateCells.{HasMemoryNumbers};
+ghost use Rattle.cif_stim.specs.Cursor.{IsMapOf};
+ghost use Rattle.cif_stim.specs.Fitting.{fits_of};
 ghost use Rattle.cif_stim.specs.StimulusView.{line_seen};
+ghost use Rattle.cif_seq.specs.Cases.{net_of};
 ghost use Rattle.cif_seq.specs.Settled.{Marks};
 
 use cif_bits::NoMemory;
-use cif_cells::{Netlist, Src};
+use cif_cells::{Cell, Netlist, Role, Src};
 use cif_level::Levels;
-use cif_stim::{StimLine, Stimulus};
+use cif_stim::{InputMap, StimLine, Stimulus};
 use std::alloc::{AllocError, Global};
 use std::marker::Model;
 
@@ -22,6 +29,7 @@ pub struct Case {
     levels: Levels,
     stimulus: Stimulus,
     released: Vec<bool>,
+    names: InputMap,
 }
 
 impl Model for Case {
@@ -73,23 +81,26 @@ fn mark_lines(marks: &mut [bool], lines: &[StimLine])
 }
 
 impl Case {
-    /// The case of these parts.
+    /// The case of these parts: the levels are the netlist's, and the stimulus fits it.
     pub fn new(
         alloc: Global,
         netlist: Netlist,
         levels: Levels,
         stimulus: Stimulus,
     ) -> Result<Case, NoMemory>
-        requires { IsLevelled (netlist_of netlist) levels }
+        requires levelled { IsLevelled (netlist_of netlist) levels }
+        requires fits { fits_of netlist stimulus ≡ true }
         ensures { IfOk result
             (λ c. c ≡ record { raw = netlist; order = levels; stimulus = stimulus }) }
     {
         let released = released_marks(alloc, netlist.bits(), stimulus.lines())?;
+        let names = InputMap::of(alloc, &netlist, &stimulus)?;
         Ok(Case {
             netlist,
             levels,
             stimulus,
             released,
+            names,
         })
     }
 
@@ -103,14 +114,17 @@ impl Case {
     /// The cells in the order in which they are evaluated.
     pub fn levels(&self) -> &Levels
         ensures are { result.now ≡ self.now.order }
-        ensures levelled { IsLevelled (netlist_of self.now.raw) self.now.order }
+        ensures levelled { IsLevelled (net_of self.now) self.now.order }
+        ensures wired { IsWired (net_of self.now) }
     {
+        let _wired = self.netlist.raw();
         &self.levels
     }
 
     /// The stimulus.
     pub fn stimulus(&self) -> &Stimulus
-        ensures { result.now ≡ self.now.stimulus }
+        ensures is { result.now ≡ self.now.stimulus }
+        ensures fits { fits_of self.now.raw self.now.stimulus ≡ true }
     {
         &self.stimulus
     }
@@ -124,8 +138,26 @@ impl Case {
 
     /// For each net bit whether it is released.
     pub fn released(&self) -> &[bool]
-        ensures { Marks (netlist_of self.now.raw) result.now (is_released self.now.stimulus.lines) }
+        ensures { Marks (net_of self.now) result.now (is_released self.now.stimulus.lines) }
     {
         &self.released
+    }
+
+    /// The names of the stimulus, as they were looked up among the input ports.
+    pub fn names(&self) -> &InputMap
+        ensures { IsMapOf (net_of self.now) self.now.stimulus result.now }
+    {
+        &self.names
+    }
+
+    /// A cell of the netlist.
+    pub fn cell(&self, number: u32) -> &Cell
+        requires { number < length (net_of self.now).cells }
+        ensures is { result.now ≡ cell_at (net_of self.now) number }
+        ensures wired { IsWired (net_of self.now) }
+        ensures fitted { IsFitted result.now }
+        ensures numbers { role_of result.now.kind ≡ Role.MemoryBlock → HasMemoryNumbers result.now }
+    {
+        &self.netlist.cells()[number as usize]
     }
 }

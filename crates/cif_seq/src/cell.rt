@@ -1,10 +1,7 @@
 // What a cell gives: the one way from operand words and taints to output words and taints.
-ghost use Rattle.std.specs.Prelude.{◌≡◌, true, ◌<◌, length, map, IfOk, [], ◌∷◌};
-ghost use Rattle.cif_defs.specs.Words.{Word as WordValue, bit, operand};
+ghost use Rattle.std.specs.Prelude.{◌≡◌, length, map, IfOk};
+ghost use Rattle.cif_defs.specs.Words.{operand};
 ghost use Rattle.cif_defs.specs.Kinds.{role_of};
-ghost use Rattle.cif_defs.specs.Table.{is_built, operands_of};
-ghost use Rattle.cif_defs.specs.Cells.{next_word};
-ghost use Rattle.cif_defs.specs.Taint.{next_register_taint};
 ghost use Rattle.cif_defs.specs.Fitted.{IsFitted, operand_widths};
 ghost use Rattle.cif_term.specs.CellTaints.{AreTaintsOf};
 ghost use Rattle.cif_term.specs.TermView.{formula_of};
@@ -12,28 +9,16 @@ ghost use Rattle.cif_seq.specs.CellWords.{GivesExactly, taint_words};
 ghost use Rattle.cif_seq.specs.Covering.{crates_of};
 ghost use Rattle.cif_defs.specs.declared.kinds.Kind.{Kind as KindValue};
 
-use crate::bits::cut;
-use crate::gather::Word;
 use cif_bits::{Bits, NoMemory};
-use cif_cells::{Cell, Kind, Param, Role, meaning};
+use cif_cells::{Cell, Role, meaning};
 use cif_term::Term;
-use std::alloc::{AllocError, Global};
+use std::alloc::Global;
 
 /// The output words of a cell and their taints, one of each for an output port.
 #[derive(Drop)]
 pub struct CellWords {
     pub values: Vec<Bits>,
     pub taints: Vec<Bits>,
-}
-
-/// The bits of word `port`; none where there is no such word.
-pub fn operand_of(words: &[Word], port: usize) -> &[bool]
-    ensures { result.now ≡ operand words.now port }
-{
-    match words.get(port) {
-        Some(word) => word.items(),
-        None => &[],
-    }
 }
 
 /// The bits of the word of `port`; none where there is no such port.
@@ -48,7 +33,6 @@ pub fn port_bits(words: &[Bits], port: usize) -> &[bool]
 
 /// The terms of a combinational cell's taint, one for each output.
 fn taint_terms(alloc: Global, cell: &Cell) -> Result<Vec<Term>, NoMemory>
-    requires built { is_built cell.now.kind ≡ true }
     requires role { role_of cell.now.kind ≡ Role.Combinational }
     requires fitted { IsFitted cell.now }
     ensures { IfOk result (λ ts. AreTaintsOf cell.now (map formula_of ts.items)) }
@@ -102,7 +86,6 @@ pub fn taint_of(
     values: &[Bits],
     taints: &[Bits],
 ) -> Result<Vec<Bits>, NoMemory>
-    requires built { is_built cell.now.kind ≡ true }
     requires role { role_of cell.now.kind ≡ Role.Combinational }
     requires fitted { IsFitted cell.now }
     requires values { map length values.now ≡ operand_widths cell.now }
@@ -121,7 +104,6 @@ pub fn cell_words(
     values: &[Bits],
     taints: &[Bits],
 ) -> Result<CellWords, NoMemory>
-    requires built { is_built cell.now.kind ≡ true }
     requires role { role_of cell.now.kind ≡ Role.Combinational }
     requires fitted { IsFitted cell.now }
     requires values { map length values.now ≡ operand_widths cell.now }
@@ -134,35 +116,4 @@ pub fn cell_words(
         values: words,
         taints: taint_words,
     })
-}
-
-/// The word that a register stores next and its taint, from its operands' words.
-#[derive(Drop)]
-pub struct Stored {
-    pub value: Vec<bool>,
-    pub taint: Vec<bool>,
-}
-
-/// What a register stores next: `$dff` takes D.
-#[tactic(auto, unfolding(cif_defs::specs::Table::operands_of))]
-pub fn stored_next(
-    alloc: Global,
-    cell: &Cell,
-    values: &[Bits],
-    taints: &[Bits],
-) -> Result<Stored, AllocError>
-    requires kind { cell.now.kind ≡ Kind.Dff }
-    requires arity { length values.now ≡ 1 }
-    requires shape { map length taints.now ≡ map length values.now }
-    ensures value { IfOk result
-        (λ s. (stored : WordValue) → s.value.items ≡ next_word cell.now values.now stored) }
-    ensures taint { IfOk result
-        (λ s. (stored stored_taint : WordValue) → length stored_taint ≡ length stored
-        → s.taint.items ≡ next_register_taint cell.now values.now taints.now stored stored_taint) }
-    ensures shape { IfOk result (λ s. length s.taint.items ≡ length s.value.items) }
-{
-    let width = cell.number(Param::Width) as usize;
-    let value = cut(alloc, width, port_bits(values, 0))?;
-    let taint = cut(alloc, width, port_bits(taints, 0))?;
-    Ok(Stored { value, taint })
 }

@@ -1,21 +1,22 @@
 // Frames: what a case shows in one cycle.
-ghost use Rattle.std.specs.Prelude.{◌≡◌, ◌+◌, ◌<◌, ◌≤◌, ℕ, false, [], length, map, get_or, IfOk};
+ghost use Rattle.std.specs.Prelude.{◌≡◌, ◌+◌, ◌<◌, false, [], get_or, IfOk};
+ghost use Rattle.cif_defs.specs.Agreement.{AgreesUpTo};
+ghost use Rattle.cif_defs.specs.Stimulus.{Stimulus};
 ghost use Rattle.cif_defs.specs.Words.{bit};
-ghost use Rattle.cif_defs.specs.Accepted.{netlist_of};
 ghost use Rattle.cif_defs.specs.Run.{state, value};
 ghost use Rattle.cif_defs.specs.TaintRun.{taint, taint_state, state_value, state_taint};
 ghost use Rattle.cif_seq.specs.Cases.{frame_of, net_of};
+ghost use Rattle.cif_seq.specs.Inputs.{StandsAt};
 
-use crate::bits::{bit_of, long_bit};
+use crate::bits::bit_of;
 use crate::case::Case;
-use crate::cell::operand_of;
-use crate::gather::Word;
-use crate::inputs::input_words;
-use crate::settle::{Start, settled};
-use crate::state::{StoredWords, next_words, start_words};
+use crate::inputs::{first_inputs, next_inputs};
+use crate::settle::{settled, state_bit};
+use crate::state::{next_words, start_words};
+use crate::stored::StoredWords;
 use cif_bits::NoMemory;
 use cif_cells::NetBit;
-use cif_stim::Pair;
+use cif_stim::{Inputs, Pair};
 use std::alloc::Global;
 use std::marker::Model;
 use std::sync::Arc;
@@ -28,8 +29,8 @@ pub struct Frame {
     cycle: u64,
     values: Vec<bool>,
     taints: Vec<bool>,
-    stored: Vec<Word>,
-    stored_taints: Vec<Word>,
+    stored: StoredWords,
+    inputs: Inputs,
 }
 
 impl Model for Frame {
@@ -39,45 +40,32 @@ impl Model for Frame {
 
     ghost view = { λ f. record { case = f.case.value; cycle = f.cycle } };
 
-    ghost invariant = { λ f. HoldsFrame f.case.value f.cycle f.values.items f.taints.items f.stored.items f.stored_taints.items };
+    ghost invariant = { λ f. HoldsFrame f.case.value f.cycle f.values.items f.taints.items f.stored.values.items f.stored.taints.items f.stored.flags.items f.inputs };
 }
 
-/// The frame of a cycle with these stored words.
+/// The frame of a cycle, from the words that the cells store in it, and the inputs at it.
 fn frame_with(
     alloc: Global,
     case: &Arc<Case>,
     cycle: u64,
     stored: StoredWords,
+    inputs: Inputs,
 ) -> Result<Frame, NoMemory>
     requires values { stored.values.items ≡ state (net_of case.now.value) case.now.value.stimulus cycle }
     requires taints { stored.taints.items ≡ (taint_state (net_of case.now.value) case.now.value.stimulus cycle).stored }
-    requires shape { map length stored.taints.items ≡ map length stored.values.items }
+    requires flags { stored.flags.items ≡ (taint_state (net_of case.now.value) case.now.value.stimulus cycle).flags }
+    requires at { StandsAt (net_of case.now.value) case.now.value.stimulus cycle inputs }
     ensures { IfOk result (λ f. f ≡ frame_of case.now.value cycle) }
 {
     let case = Arc::try_clone(case)?;
-    let netlist = case.netlist();
-    let _accepted = netlist.raw();
-    let inputs = input_words(alloc, netlist, case.stimulus(), cycle)?;
-    let start = Start {
-        inputs: &inputs.values,
-        input_taints: &inputs.taints,
-        stored: &stored.values,
-        stored_taints: &stored.taints,
-    };
-    let bits = settled(
-        alloc,
-        netlist,
-        case.levels().items(),
-        case.released(),
-        start,
-    )?;
+    let bits = settled(alloc, &case, &stored, &inputs)?;
     Ok(Frame {
         case,
         cycle,
         values: bits.values,
         taints: bits.taints,
-        stored: stored.values,
-        stored_taints: stored.taints,
+        stored,
+        inputs,
     })
 }
 
@@ -86,7 +74,8 @@ pub fn first_frame(alloc: Global, case: &Arc<Case>) -> Result<Frame, NoMemory>
     ensures { IfOk result (λ f. f ≡ frame_of case.now.value 0) }
 {
     let stored = start_words(alloc, case.netlist(), case.stimulus())?;
-    frame_with(alloc, case, 0, stored)
+    let inputs = first_inputs(alloc, case)?;
+    frame_with(alloc, case, 0, stored, inputs)
 }
 
 /// The frame after a frame.
@@ -94,9 +83,17 @@ pub fn next_frame(alloc: Global, frame: &Frame) -> Result<Frame, NoMemory>
     requires { frame.now.cycle + 1 < frame.now.case.stimulus.cycles }
     ensures { IfOk result (λ f. f ≡ frame_of frame.now.case (frame.now.cycle + 1)) }
 {
-    let _cycles = frame.case.cycles();
-    let stored = next_words(alloc, frame.case.netlist(), &frame.values, &frame.taints)?;
-    frame_with(alloc, &frame.case, frame.cycle + 1, stored)
+    let case = &frame.case;
+    let _cycles = case.cycles();
+    let stored = next_words(
+        alloc,
+        case.netlist(),
+        &frame.values,
+        &frame.taints,
+        &frame.stored,
+    )?;
+    let inputs = next_inputs(alloc, case, &frame.inputs)?;
+    frame_with(alloc, case, frame.cycle + 1, stored, inputs)
 }
 
 impl Frame {
@@ -115,10 +112,16 @@ impl Frame {
     }
 
     /// The value and the taint of a net bit. The clock reads 0 and untainted.
+    ///
+    /// A bit that is untainted has this value under each stimulus that agrees up to the cycle.
     pub fn bit(&self, net: NetBit) -> Pair
         ensures value { result.value ≡ value (net_of self.now.case) self.now.case.stimulus self.now.cycle net }
         ensures taint { result.taint ≡ taint (net_of self.now.case) self.now.case.stimulus self.now.cycle net }
+        ensures independent { (other : Stimulus)
+            → AgreesUpTo (net_of self.now.case) self.now.cycle self.now.case.stimulus other
+            → result.taint ≡ false → value (net_of self.now.case) other self.now.cycle net ≡ result.value }
     {
+        let _levels = self.case.levels();
         Pair {
             value: bit_of(&self.values, net as usize),
             taint: bit_of(&self.taints, net as usize),
@@ -127,14 +130,20 @@ impl Frame {
 
     /// The value and the taint of bit `index` of the word that a cell stores; of a memory, bit `word * WIDTH + bit`, which
     /// is tainted too where the memory's flag is set.
+    ///
+    /// A bit that is untainted has this value under each stimulus that agrees up to the cycle.
     pub fn state(&self, cell: u32, index: u64) -> Pair
         ensures value { result.value ≡ state_value (net_of self.now.case) self.now.case.stimulus self.now.cycle cell index }
         ensures taint { result.taint ≡ state_taint (net_of self.now.case) self.now.case.stimulus self.now.cycle cell index }
+        ensures independent { (other : Stimulus)
+            → AgreesUpTo (net_of self.now.case) self.now.cycle self.now.case.stimulus other
+            → result.taint ≡ false
+            → state_value (net_of self.now.case) other self.now.cycle cell index ≡ result.value }
     {
-        let _accepted = self.case.netlist().raw();
+        let _levels = self.case.levels();
         Pair {
-            value: long_bit(operand_of(&self.stored, cell as usize), index),
-            taint: long_bit(operand_of(&self.stored_taints, cell as usize), index),
+            value: state_bit(&self.stored.values, cell, index),
+            taint: self.stored(cell, index) | self.flag(cell),
         }
     }
 
@@ -142,15 +151,14 @@ impl Frame {
     pub fn stored(&self, cell: u32, index: u64) -> bool
         ensures { result ≡ bit (get_or (taint_state (net_of self.now.case) self.now.case.stimulus self.now.cycle).stored cell []) index }
     {
-        long_bit(operand_of(&self.stored_taints, cell as usize), index)
+        state_bit(&self.stored.taints, cell, index)
     }
 
-    /// The sticky flag of a memory: whether a write at a tainted address may have come so far. No kind that is built so
-    /// far has one, so it is off.
-    pub fn flag(&self, _cell: u32) -> bool
-        ensures { result ≡ get_or (taint_state (net_of self.now.case) self.now.case.stimulus self.now.cycle).flags _cell false }
+    /// The sticky flag of a memory: whether a write at a tainted address may have come so far. It is off for any other
+    /// cell.
+    pub fn flag(&self, cell: u32) -> bool
+        ensures { result ≡ get_or (taint_state (net_of self.now.case) self.now.case.stimulus self.now.cycle).flags cell false }
     {
-        let _accepted = self.case.netlist().raw();
-        false
+        bit_of(&self.stored.flags, cell as usize)
     }
 }

@@ -1,16 +1,13 @@
 // The words that a cell reads.
-ghost use Rattle.std.specs.Prelude.{◌≡◌, ◌≤◌, length, IfOk};
+ghost use Rattle.std.specs.Prelude.{◌≡◌, ◌≤◌, ◌+◌, length, take, drop, IfOk};
 ghost use Rattle.cif_defs.specs.Words.{bit};
 ghost use Rattle.cif_defs.specs.Run.{src_bit, src_word, words_under, operand_words};
 ghost use Rattle.cif_defs.specs.TaintRun.{src_taint, taint_word, taints_under, operand_taints};
 ghost use Rattle.cif_seq.specs.CellWords.{AreNarrow};
 
 use cif_bits::{Bits, NoMemory};
-use cif_cells::{Cell, Listed, Sources, Src};
+use cif_cells::{Cell, Sources, Src};
 use std::alloc::{AllocError, Global};
-
-/// A word of bits, lowest first.
-pub type Word = Listed<bool>;
 
 /// The value of one bit that is read, where `values` are those of the net bits.
 pub fn source_value(values: &[bool], source: Src) -> bool
@@ -51,6 +48,32 @@ fn taint_bits(alloc: Global, taints: &[bool], sources: &[Src]) -> Result<Vec<boo
         word.push(source_taint(taints, *source))?;
     }
     Ok(word)
+}
+
+/// Some of the bits that are read: `size` of them from place `start` upward.
+pub fn part(sources: &[Src], start: usize, size: usize) -> &[Src]
+    requires { start + size ≤ length sources.now }
+    ensures { result.now ≡ take size (drop start sources.now) }
+{
+    &sources[start..start + size]
+}
+
+/// The word of some bits that are read, where `values` are those of the net bits; at most 65,536 of them.
+pub fn value_word(alloc: Global, values: &[bool], sources: &[Src]) -> Result<Bits, NoMemory>
+    requires { length sources.now ≤ 65536 }
+    ensures { IfOk result (λ w. w ≡ src_word (bit values.now) sources.now) }
+{
+    let bits = value_bits(alloc, values, sources)?;
+    Ok(Bits::of(bits))
+}
+
+/// The taint of the word of some bits that are read, where `taints` are those of the net bits; at most 65,536 of them.
+pub fn taint_word(alloc: Global, taints: &[bool], sources: &[Src]) -> Result<Bits, NoMemory>
+    requires { length sources.now ≤ 65536 }
+    ensures { IfOk result (λ w. w ≡ taint_word (bit taints.now) sources.now) }
+{
+    let bits = taint_bits(alloc, taints, sources)?;
+    Ok(Bits::of(bits))
 }
 
 /// The words of operands.

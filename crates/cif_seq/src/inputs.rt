@@ -1,55 +1,44 @@
-// What the input ports hold at a cycle.
-ghost use Rattle.std.specs.Prelude.{◌≡◌, ◌<◌, ℕ, length, get_or, IfOk};
-ghost use Rattle.cif_defs.specs.Words.{bit, word};
-ghost use Rattle.cif_defs.specs.Accepted.{netlist_of};
-ghost use Rattle.cif_defs.specs.Stimulus.{input_at};
-ghost use Rattle.cif_seq.specs.Inputs.{HoldsInputs, input_width};
+// What the input ports hold, from cycle to cycle.
+ghost use Rattle.std.specs.Prelude.{◌≡◌, ◌+◌, ◌<◌, ◌^◌, length, IfOk};
+ghost use Rattle.cif_defs.specs.Run.{input_value};
+ghost use Rattle.cif_defs.specs.TaintRun.{input_taint};
+ghost use Rattle.cif_stim.specs.Cursor.{cycle_of};
+ghost use Rattle.cif_seq.specs.Cases.{net_of};
+ghost use Rattle.cif_seq.specs.Inputs.{StandsAt};
 
-use crate::bits::cut;
-use crate::cell::Stored;
-use crate::state::StoredWords;
-use cif_cells::{Listed, Netlist};
-use cif_stim::Stimulus;
-use std::alloc::{AllocError, Global};
+use crate::case::Case;
+use cif_bits::NoMemory;
+use cif_stim::{Inputs, Pair};
+use std::alloc::Global;
 
-/// The word of an input port at a cycle, and its taint.
-fn input_word(
-    alloc: Global,
-    netlist: &Netlist,
-    stimulus: &Stimulus,
-    port: usize,
-    cycle: u64,
-) -> Result<Stored, AllocError>
-    requires { port < length (netlist_of netlist.now).inputs }
-    ensures value { IfOk result (λ s. s.value.items ≡ word (input_width (netlist_of netlist.now) port)
-        (λ j. bit (input_at (netlist_of netlist.now) stimulus.now cycle port).value j)) }
-    ensures taint { IfOk result (λ s. s.taint.items ≡ word (input_width (netlist_of netlist.now) port)
-        (λ j. bit (input_at (netlist_of netlist.now) stimulus.now cycle port).taint j)) }
+/// The cursor of cycle 0.
+pub fn first_inputs(alloc: Global, case: &Case) -> Result<Inputs, NoMemory>
+    ensures { IfOk result (λ i. StandsAt (net_of case.now) case.now.stimulus 0 i) }
 {
-    let wire = &netlist.inputs()[port];
-    let held = stimulus.held(wire.name().items(), cycle);
-    let width = wire.items().len();
-    let value = cut(alloc, width, held.value)?;
-    let taint = cut(alloc, width, held.taint)?;
-    Ok(Stored { value, taint })
+    let inputs = Inputs::start(alloc, case.netlist(), case.names(), case.stimulus())?;
+    Ok(inputs)
 }
 
-/// The words of all input ports at a cycle.
-pub fn input_words(
-    alloc: Global,
-    netlist: &Netlist,
-    stimulus: &Stimulus,
-    cycle: u64,
-) -> Result<StoredWords, AllocError>
-    ensures { IfOk result (λ s. HoldsInputs (netlist_of netlist.now) stimulus.now cycle s.values.items s.taints.items) }
+/// The cursor of the cycle after.
+pub fn next_inputs(alloc: Global, case: &Case, inputs: &Inputs) -> Result<Inputs, NoMemory>
+    requires at { StandsAt (net_of case.now) case.now.stimulus (cycle_of inputs.now) inputs.now }
+    requires more { cycle_of inputs.now + 1 < 2 ^ 64 }
+    ensures { IfOk result
+        (λ i. StandsAt (net_of case.now) case.now.stimulus (cycle_of inputs.now + 1) i) }
 {
-    let count = netlist.inputs().len();
-    let mut values = Vec::with_capacity(alloc, count)?;
-    let mut taints = Vec::with_capacity(alloc, count)?;
-    for port in 0..count {
-        let held = input_word(alloc, netlist, stimulus, port, cycle)?;
-        values.push(Listed::of(held.value))?;
-        taints.push(Listed::of(held.taint))?;
-    }
-    Ok(StoredWords { values, taints })
+    let mut next = inputs.copy(alloc)?;
+    next.advance(case.netlist(), case.names(), case.stimulus());
+    Ok(next)
+}
+
+/// What bit `index` of an input port holds, and its taint.
+pub fn input_pair(case: &Case, inputs: &Inputs, port: u32, index: u32) -> Pair
+    requires at { StandsAt (net_of case.now) case.now.stimulus (cycle_of inputs.now) inputs.now }
+    requires port { port < length (net_of case.now).inputs }
+    ensures value { result.value
+        ≡ input_value (net_of case.now) case.now.stimulus (cycle_of inputs.now) port index }
+    ensures taint { result.taint
+        ≡ input_taint (net_of case.now) case.now.stimulus (cycle_of inputs.now) port index }
+{
+    inputs.pair(case.netlist(), case.names(), case.stimulus(), port, index)
 }

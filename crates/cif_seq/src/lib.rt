@@ -7,8 +7,14 @@ mod cell;
 mod frame;
 mod gather;
 mod inputs;
+mod memory;
+mod reads;
+mod registers;
 mod settle;
+mod shown;
+mod starts;
 mod state;
+mod stored;
 mod write;
 
 pub use case::Case;

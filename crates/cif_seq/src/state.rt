@@ -1,133 +1,190 @@
-// The stored words of a cycle: what the cells start with, and what they store next.
-ghost use Rattle.std.specs.Prelude.{◌≡◌, ◌<◌, ℕ, List, length, map, get_or, [], IfOk};
-ghost use Rattle.std.specs.List.{range_with_len};
-ghost use Rattle.cif_defs.specs.Words.{Word as WordValue, bit, word};
+// What all cells store: at the start, and after each cycle.
+ghost use Rattle.std.specs.Prelude.{◌≡◌, ◌<◌, false, length, [], IfOk};
+ghost use Rattle.cif_defs.specs.Words.{bit};
 ghost use Rattle.cif_defs.specs.Accepted.{netlist_of};
 ghost use Rattle.cif_defs.specs.Cells.{state_bits};
 ghost use Rattle.cif_defs.specs.Netlist.{cell_at, role_at};
 ghost use Rattle.cif_defs.specs.Stimulus.{start_at};
-ghost use Rattle.cif_defs.specs.Run.{stored_by};
-ghost use Rattle.cif_defs.specs.TaintRun.{taint_stored_by};
-ghost use Rattle.cif_seq.specs.States.{StartsWith, NextWords};
+ghost use Rattle.cif_defs.specs.Run.{next_stored, state, stored_by};
+ghost use Rattle.cif_defs.specs.TaintRun.{flag_by, next_taints, taint_state, taint_stored_by};
+ghost use Rattle.cif_seq.specs.Starts.{IsTableFrom};
+ghost use Rattle.cif_seq.specs.Stored.{IsStored};
 
-use crate::cell::{Stored, stored_next};
-use crate::gather::{Word, taint_words, value_words};
+use crate::gather::{taint_words, value_words};
+use crate::memory::next_memory;
+use crate::registers::next_register;
+use crate::starts::{StartLines, start_word};
+use crate::stored::{CellState, StateRef, StateWord, StoredWords};
 use cif_bits::NoMemory;
-use cif_cells::{Kind, Listed, Netlist, Param};
+use cif_cells::{Netlist, Role, table};
 use cif_stim::Stimulus;
-use std::alloc::{AllocError, Global};
+use std::alloc::Global;
 
-/// For each cell the word that it stores and its taint; empty words for a cell without state.
-#[derive(Drop)]
-pub struct StoredWords {
-    pub values: Vec<Word>,
-    pub taints: Vec<Word>,
+/// What a cell without state stores: words of no bits, and this flag.
+fn no_state(alloc: Global, flag: bool) -> Result<CellState, NoMemory>
+    ensures value { IfOk result (λ s. s.value ≡ []) }
+    ensures taint { IfOk result (λ s. s.taint ≡ []) }
+    ensures flag { IfOk result (λ s. s.flag ≡ flag) }
+{
+    Ok(CellState {
+        value: StateWord::of(alloc, Vec::new(alloc))?,
+        taint: StateWord::of(alloc, Vec::new(alloc))?,
+        flag,
+    })
 }
 
-/// How many bits a cell stores.
-fn state_width(netlist: &Netlist, number: u32) -> u64
-    requires { number < length (netlist_of netlist.now).cells }
-    ensures { result ≡ state_bits (cell_at (netlist_of netlist.now) number) }
+/// What a cell starts with, by the table of the stimulus's lines.
+fn start_state<'a>(
+    alloc: Global,
+    netlist: &'a Netlist,
+    stimulus: &'a Stimulus,
+    table: &StartLines<'a>,
+    number: u32,
+) -> Result<CellState, NoMemory>
+    requires number { number < length (netlist_of netlist.now).cells }
+    requires table { IsTableFrom stimulus.now.lines 0 table.now }
+    ensures value { IfOk result
+        (λ s. s.value ≡ (start_at (netlist_of netlist.now) stimulus.now number).value) }
+    ensures taint { IfOk result
+        (λ s. s.taint ≡ (start_at (netlist_of netlist.now) stimulus.now number).taint) }
+    ensures flag { IfOk result (λ s. s.flag ≡ false) }
 {
     let cell = &netlist.cells()[number as usize];
-    match cell.kind() {
-        Kind::Dff => cell.number(Param::Width),
-        _ => 0,
+    match table::role(cell.kind()) {
+        Role::PlainRegister | Role::ResetRegister => {
+            let start = start_word(alloc, netlist, stimulus, table, number)?;
+            Ok(CellState {
+                value: StateWord::of(alloc, start.value)?,
+                taint: StateWord::of(alloc, start.taint)?,
+                flag: false,
+            })
+        }
+        Role::MemoryBlock => {
+            let start = start_word(alloc, netlist, stimulus, table, number)?;
+            Ok(CellState {
+                value: StateWord::paged(alloc, &start.value)?,
+                taint: StateWord::paged(alloc, &start.taint)?,
+                flag: false,
+            })
+        }
+        Role::Combinational | Role::CarriedOver => no_state(alloc, false),
     }
 }
 
-/// The word with which a cell starts, and its taint.
-fn start_word(
-    alloc: Global,
-    netlist: &Netlist,
-    stimulus: &Stimulus,
-    number: u32,
-) -> Result<Stored, AllocError>
-    requires { number < length (netlist_of netlist.now).cells }
-    ensures value { IfOk result (λ s. s.value.items ≡ (start_at (netlist_of netlist.now) stimulus.now number).value) }
-    ensures taint { IfOk result (λ s. s.taint.items ≡ (start_at (netlist_of netlist.now) stimulus.now number).taint) }
-{
-    let width = state_width(netlist, number);
-    let mut value = Vec::new(alloc);
-    let mut taint = Vec::new(alloc);
-    for index in 0..width {
-        let pair = stimulus.start(netlist, number, index);
-        value.push(pair.value)?;
-        taint.push(pair.taint)?;
-    }
-    Ok(Stored { value, taint })
-}
-
-/// The words with which the cells start.
+/// What all cells start with. It looks each name up once, and passes each line once for a cell that it names.
 pub fn start_words(
     alloc: Global,
     netlist: &Netlist,
     stimulus: &Stimulus,
-) -> Result<StoredWords, AllocError>
-    ensures { IfOk result (λ s. StartsWith (netlist_of netlist.now) stimulus.now s.values.items s.taints.items) }
+) -> Result<StoredWords, NoMemory>
+    ensures values { IfOk result
+        (λ w. w.values.items ≡ state (netlist_of netlist.now) stimulus.now 0) }
+    ensures taints { IfOk result
+        (λ w. w.taints.items ≡ (taint_state (netlist_of netlist.now) stimulus.now 0).stored) }
+    ensures flags { IfOk result
+        (λ w. w.flags.items ≡ (taint_state (netlist_of netlist.now) stimulus.now 0).flags) }
+    ensures stored { IfOk result (λ w. IsStored (netlist_of netlist.now)
+        w.values.items w.taints.items w.flags.items) }
 {
     let count = netlist.cells().len() as u32;
+    let table = StartLines::of(alloc, stimulus.lines())?;
     let mut values = Vec::with_capacity(alloc, count as usize)?;
     let mut taints = Vec::with_capacity(alloc, count as usize)?;
+    let mut flags = Vec::with_capacity(alloc, count as usize)?;
     for number in 0..count {
-        let stored = start_word(alloc, netlist, stimulus, number)?;
-        values.push(Listed::of(stored.value))?;
-        taints.push(Listed::of(stored.taint))?;
+        let start = start_state(alloc, netlist, stimulus, &table, number)?;
+        values.push(start.value)?;
+        taints.push(start.taint)?;
+        flags.push(start.flag)?;
     }
-    Ok(StoredWords { values, taints })
+    Ok(StoredWords {
+        values,
+        taints,
+        flags,
+    })
 }
 
-/// What a cell stores next, where `values` and `taints` are those of the net bits.
-fn next_word(
+/// What a cell stores next, where `values` and `taints` are those of the net bits, and `prior` is what it stores.
+fn next_state(
     alloc: Global,
     netlist: &Netlist,
     number: u32,
     values: &[bool],
     taints: &[bool],
-) -> Result<Stored, NoMemory>
-    requires { number < length (netlist_of netlist.now).cells }
-    ensures value { IfOk result (λ s. (stored : WordValue) → s.value.items
-        ≡ stored_by (role_at (netlist_of netlist.now) number) (cell_at (netlist_of netlist.now) number)
-        (bit values.now) stored) }
-    ensures taint { IfOk result (λ s. (stored stored_taint : WordValue) → length stored_taint ≡ length stored
-        → s.taint.items ≡ taint_stored_by (role_at (netlist_of netlist.now) number)
-        (cell_at (netlist_of netlist.now) number) (bit values.now) (bit taints.now) stored stored_taint) }
-    ensures shape { IfOk result (λ s. length s.taint.items ≡ length s.value.items) }
+    prior: StateRef,
+) -> Result<CellState, NoMemory>
+    requires number { number < length (netlist_of netlist.now).cells }
+    requires value { length prior.value.now ≡ state_bits (cell_at (netlist_of netlist.now) number) }
+    requires taint { length prior.taint.now ≡ state_bits (cell_at (netlist_of netlist.now) number) }
+    ensures value { IfOk result (λ s. s.value ≡ stored_by
+        (role_at (netlist_of netlist.now) number) (cell_at (netlist_of netlist.now) number)
+        (bit values.now) prior.entry.value.now) }
+    ensures taint { IfOk result (λ s. s.taint ≡ taint_stored_by
+        (role_at (netlist_of netlist.now) number) (cell_at (netlist_of netlist.now) number)
+        (bit values.now) (bit taints.now) prior.entry.value.now prior.entry.taint.now) }
+    ensures flag { IfOk result (λ s. s.flag ≡ flag_by
+        (role_at (netlist_of netlist.now) number) (cell_at (netlist_of netlist.now) number)
+        (bit values.now) (bit taints.now) prior.entry.flag) }
 {
     let cell = &netlist.cells()[number as usize];
-    match cell.kind() {
-        Kind::Dff => {
-            let operand_values = value_words(alloc, values, cell)?;
+    match table::role(cell.kind()) {
+        Role::PlainRegister | Role::ResetRegister => {
+            let operands = value_words(alloc, values, cell)?;
             let operand_taints = taint_words(alloc, taints, cell)?;
-            let stored = stored_next(alloc, cell, &operand_values, &operand_taints)?;
-            Ok(stored)
+            next_register(alloc, cell, operands, operand_taints, prior)
         }
-        _ => Ok(Stored {
-            value: Vec::new(alloc),
-            taint: Vec::new(alloc),
-        }),
+        Role::MemoryBlock => {
+            let operands = value_words(alloc, values, cell)?;
+            let operand_taints = taint_words(alloc, taints, cell)?;
+            next_memory(alloc, cell, &operands, &operand_taints, prior)
+        }
+        Role::Combinational | Role::CarriedOver => no_state(alloc, prior.flag),
     }
 }
 
-/// What the cells store next.
+/// What all cells store next, where `values` and `taints` are those of the net bits, and `prior` is what the cells store.
+/// A cell without state costs no more than its empty words, and a memory its ports.
 pub fn next_words(
     alloc: Global,
     netlist: &Netlist,
     values: &[bool],
     taints: &[bool],
+    prior: &StoredWords,
 ) -> Result<StoredWords, NoMemory>
-    ensures { IfOk result (λ s. NextWords (netlist_of netlist.now) (bit values.now) (bit taints.now) s.values.items s.taints.items) }
+    requires { IsStored (netlist_of netlist.now)
+        prior.now.values.items prior.now.taints.items prior.now.flags.items }
+    ensures values { IfOk result (λ w. w.values.items
+        ≡ next_stored (netlist_of netlist.now) prior.now.values.items (bit values.now)) }
+    ensures taints { IfOk result (λ w. w.taints.items
+        ≡ (next_taints (netlist_of netlist.now) prior.now.values.items (bit values.now)
+        (record { stored = prior.now.taints.items; flags = prior.now.flags.items })
+        (bit taints.now)).stored) }
+    ensures flags { IfOk result (λ w. w.flags.items
+        ≡ (next_taints (netlist_of netlist.now) prior.now.values.items (bit values.now)
+        (record { stored = prior.now.taints.items; flags = prior.now.flags.items })
+        (bit taints.now)).flags) }
+    ensures stored { IfOk result (λ w. IsStored (netlist_of netlist.now)
+        w.values.items w.taints.items w.flags.items) }
 {
     let count = netlist.cells().len() as u32;
     let mut next_values = Vec::with_capacity(alloc, count as usize)?;
     let mut next_taints = Vec::with_capacity(alloc, count as usize)?;
+    let mut next_flags = Vec::with_capacity(alloc, count as usize)?;
     for number in 0..count {
-        let stored = next_word(alloc, netlist, number, values, taints)?;
-        next_values.push(Listed::of(stored.value))?;
-        next_taints.push(Listed::of(stored.taint))?;
+        let place = number as usize;
+        let held = StateRef {
+            value: &prior.values[place],
+            taint: &prior.taints[place],
+            flag: prior.flags[place],
+        };
+        let next = next_state(alloc, netlist, number, values, taints, held)?;
+        next_values.push(next.value)?;
+        next_taints.push(next.taint)?;
+        next_flags.push(next.flag)?;
     }
     Ok(StoredWords {
         values: next_values,
         taints: next_taints,
+        flags: next_flags,
     })
 }

@@ -8,7 +8,7 @@ use cif_bits::Bits;
 use cif_cells::{NetBit, Targets};
 
 /// Writes a word to the net bits of one output; a bit that `marks` has is written as 0.
-fn write_word(bits: &mut [bool], marks: &[bool], targets: &[Option<NetBit>], word: &[bool])
+pub fn write_word(bits: &mut [bool], marks: &[bool], targets: &[Option<NetBit>], word: &[bool])
     ensures { bits.new ≡ put_word marks.now targets.now word.now bits.old }
 {
     for i in 0..targets.len() {

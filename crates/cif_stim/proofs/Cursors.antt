@@ -10,7 +10,7 @@ use Rattle.cif_defs.specs.declared.nets.Wire.{Wire}
 use Rattle.cif_defs.specs.Netlist.{Netlist, no_wire}
 use Rattle.cif_defs.specs.Stimulus.{Stimulus, StimLine as LineData, TaintedWord, unset, held_by, input_at, reg_line, mem_line, release_line, cycle_line, set_line}
 use Rattle.cif_stim.specs.StimulusView.{line_seen}
-use Rattle.cif_stim.specs.Ports.{place_named}
+use Rattle.cif_stim.specs.Names.{place_named}
 use Rattle.cif_stim.specs.Cursor.{target_of, word_of, word_by, is_later_line, setter_at, setters_after, Passes, Stops, IsMapOf, IsAt, cycle_of}
 use Rattle.cif_stim.specs.Held.{word_set, word_set_at}
 use Rattle.cif_stim.specs.declared.inputs.InputMap.{InputMap}

@@ -4,7 +4,7 @@ use Rattle.std.proofs.Common.{arith, sym, ap, ◌∙◌, drop, inl, inr, if◌th
 use Rattle.std.proofs.lemmas.List.{at_drop_more, at_drop_all}
 use Rattle.std.proofs.lemmas.Bool.Decides.{nat_tests}
 use Rattle.cif_defs.specs.Text.{is_decimal, decimal_value, number_read}
-use Rattle.cif_stim.specs.LineWords.{below_limit, number_with}
+use Rattle.cif_stim.specs.Numbers.{below_limit, number_with}
 
 -- digits only raise a number
 grows : (n : ℕ) (digits : List ℕ) → n ≤ fold number_with n digits

@@ -1,100 +1,143 @@
--- The forms of lines.
-use Rattle.std.specs.Prelude.{ℕ, ◌≡◌, Bool, true, false, ◌&&◌, List, [], ◌∷◌, bytes_eq, codes, Option, Some, None, option_and_then, refl, IfSome}
-use Rattle.std.proofs.Common.{sym, ap, subst, ◌∙◌, if◌then◌else◌}
-use Rattle.std.specs.Borrow.{Bor}
+-- Forms of lines, word by word.
+use Rattle.std.specs.Prelude.{ℕ, ◌≡◌, ◌==◌, nat_eq, Bool, true, false, ◌&&◌, List, [], ◌∷◌, length, reverse, bytes_eq, codes, Option, Some, None, option_map, option_and_then, refl}
+use Rattle.std.proofs.Common.{sym, ap, ◌∙◌, if◌then◌else◌}
 use Rattle.std.specs.List.{list_all}
-use Rattle.std.proofs.lemmas.Slice.Eq.{bytes_eq-Decides}
-use Rattle.cif_defs.specs.Netlist.{Netlist}
-use Rattle.cif_defs.specs.Text.{number_read}
-use Rattle.cif_defs.specs.Stimulus.{StimLine as LineData}
-use Rattle.cif_defs.specs.StimulusText.{Group as GroupState, cycle_read, line_read, is_plain_word}
-use Rattle.cif_stim.specs.LineWords.{has_form}
-use Rattle.cif_stim.specs.Reading.{step_of, set_step}
-use Rattle.cif_stim.specs.Forms.{taint_words}
+use Rattle.std.proofs.lemmas.List.{length-map, length-reverse}
+use Rattle.cif_defs.specs.WordText.{word_of_text}
+use Rattle.cif_defs.specs.Stimulus.{TaintedWord, StimLine as LineData, reg_line, mem_line, set_line}
+use Rattle.cif_defs.specs.Text.{number_read, decoded, is_visible}
+use Rattle.cif_defs.specs.declared.raw_module.Raw.{Raw}
+use Rattle.cif_defs.proofs.WordLaws.{length-word}
+use Rattle.cif_stim.specs.Fitting.{is_of_width}
+use Rattle.cif_stim.specs.Forms.{word_seen, taint_seen}
+use Rattle.cif_stim.specs.StimulusText.{tainted_said, reg_said, mem_said, set_said, release_said, cycle_said, said_by, line_said}
+use Rattle.cif_stim.specs.declared.form.WordText.{WordText}
 
-neither : {A : Type 0} (b : Bool) (r : Option A) → r ≡ None → (if b then r else None) ≡ None
-neither true r h = h
-neither false r h = refl
+-- ---- widths
 
--- the tests of a line's words, one after another
-both : (a b : Bool) → (a && b) ≡ true → (a ≡ true) × (b ≡ true)
-both true b h = (refl, h)
-both false b h = absurd (cc)
+and_self : (b : Bool) → b ≡ (b && b)
+and_self true = refl
+and_self false = refl
 
-not_group_by : (a b p : Bool) (r : Option LineData) → (a && b) ≡ false → (if p && (b && true) then (if a then r else None) else None) ≡ None
-not_group_by false b p r h = neither (p && (b && true)) None refl
-not_group_by true true p r h = absurd (cc)
-not_group_by true false true r h = refl
-not_group_by true false false r h = refl
+text_length : (text : List ℕ) → length (word_of_text text) ≡ length text
+text_length text = length-map (reverse text) (λ b. b == 49) ∙ length-reverse text
 
-not_set_by : (a b c p d : Bool) (r : Option LineData) → (a && b && c) ≡ false → (if p && (b && (c && d)) then (if a then r else None) else None) ≡ None
-not_set_by false b c p d r h = neither (p && (b && (c && d))) None refl
-not_set_by true true true p d r h = absurd (cc)
-not_set_by true true false true d r h = refl
-not_set_by true true false false d r h = refl
-not_set_by true false c true d r h = refl
-not_set_by true false c false d r h = refl
+pub width_none : (w : WordText) (n : ℕ) → w.taint ≡ None → nat_eq (length w.value.now) n ≡ is_of_width (word_seen w) n
+width_none w n none =
+    and_self (length w.value.now == n)
+    ∙ ap (λ k. k == n && length w.value.now == n) (sym (text_length w.value.now))
+    ∙ ap (λ k. length (word_of_text w.value.now) == n && k == n) (sym (length-word (length w.value.now) (λ i. false)))
+    ∙ ap (λ t. length (word_of_text w.value.now) == n && length (taint_seen (length w.value.now) t) == n) (sym none)
 
-not_plain_by : (p b c d : Bool) (r : Option LineData) → d ≡ false → (if p && (b && (c && (d && true))) then r else None) ≡ None
-not_plain_by p b c true r h = absurd (cc)
-not_plain_by true true true false r h = refl
-not_plain_by true true false false r h = refl
-not_plain_by true false c false r h = refl
-not_plain_by false b c false r h = refl
+-- ---- forms that lack a part
 
--- a line that begins a group
-pub group_words : (verb number : List ℕ) → (bytes_eq verb (codes "@") && is_plain_word number) ≡ true → (n : Netlist) (cycles : ℕ) (g : GroupState) → step_of n cycles g (verb ∷ number ∷ []) ≡ option_and_then (cycle_read cycles g) (number_read number)
-unfolding step_of
-group_words verb number h n cycles g =
-    let parts = both (bytes_eq verb (codes "@")) (is_plain_word number) h in
-    let P : List ℕ → Type 0 = λ u. (if list_all is_plain_word (u ∷ number ∷ []) then line_read n cycles g (u ∷ number ∷ []) else None) ≡ option_and_then (cycle_read cycles g) (number_read number) in
-    subst P (sym ((bytes_eq-Decides verb (codes "@")).0 parts.0))
-    (ap (λ b. if b && true then option_and_then (cycle_read cycles g) (number_read number) else None) parts.1)
+no_word : {A : Type 0} (f : A → TaintedWord → LineData) (name : Option A) → option_and_then (λ x. option_map (λ w. f x w) None) name ≡ None
+no_word f None = refl
+no_word f (Some x) = refl
 
--- two other words
-pub not_group : (verb number : List ℕ) → (bytes_eq verb (codes "@") && is_plain_word number) ≡ false → (n : Netlist) (cycles : ℕ) (g : GroupState) → step_of n cycles g (verb ∷ number ∷ []) ≡ None
-unfolding step_of
-not_group verb number h n cycles g = not_group_by (bytes_eq verb (codes "@")) (is_plain_word number) (is_plain_word verb) (option_and_then (cycle_read cycles g) (number_read number)) h
+seen_none : (w : Option WordText) (rest : List (List ℕ)) → option_map word_seen w ≡ tainted_said rest → w ≡ None → tainted_said rest ≡ None
+seen_none w rest seen none = sym seen ∙ ap (option_map word_seen) none
 
--- a line that sets a port
-set_words_at : (port value : List ℕ) (taint : Option (Bor (List ℕ))) → IfSome taint (λ t. is_plain_word t.now ≡ true) → is_plain_word port ≡ true → is_plain_word value ≡ true → (n : Netlist) (cycles : ℕ) (g : GroupState) → step_of n cycles g (codes "set" ∷ port ∷ value ∷ taint_words taint) ≡ set_step n g port value taint
-unfolding step_of set_step
-set_words_at port value None t p v n cycles g =
-    ap (λ b. if b && (is_plain_word value && true) then set_step n g port value None else None) p
-    ∙ ap (λ b. if b && true then set_step n g port value None else None) v
-set_words_at port value (Some taint) t p v n cycles g =
-    ap (λ b. if b && (is_plain_word value && (is_plain_word taint.now && true)) then set_step n g port value (Some taint) else None) p
-    ∙ ap (λ b. if b && (is_plain_word taint.now && true) then set_step n g port value (Some taint) else None) v
-    ∙ ap (λ b. if b && true then set_step n g port value (Some taint) else None) t
+pub reg_none : (words : List (List ℕ)) (cell : List ℕ) (rest : List (List ℕ)) (w : Option WordText) → words ≡ cell ∷ rest → option_map word_seen w ≡ tainted_said rest → w ≡ None → None ≡ reg_said words
+reg_none words cell rest w is seen none = sym
+    (ap reg_said is
+    ∙ ap (λ (t : Option TaintedWord). option_and_then (λ name. option_map (λ v. reg_line name v) t) (decoded cell)) (seen_none w rest seen none)
+    ∙ no_word reg_line (decoded cell))
 
-pub set_words : (verb port value : List ℕ) (taint : Option (Bor (List ℕ))) → IfSome taint (λ t. is_plain_word t.now ≡ true) → (bytes_eq verb (codes "set") && is_plain_word port && is_plain_word value) ≡ true → (n : Netlist) (cycles : ℕ) (g : GroupState) → step_of n cycles g (verb ∷ port ∷ value ∷ taint_words taint) ≡ set_step n g port value taint
-set_words verb port value taint t h n cycles g =
-    let parts = both (bytes_eq verb (codes "set") && is_plain_word port) (is_plain_word value) h in
-    let front = both (bytes_eq verb (codes "set")) (is_plain_word port) parts.0 in
-    let P : List ℕ → Type 0 = λ u. step_of n cycles g (u ∷ port ∷ value ∷ taint_words taint) ≡ set_step n g port value taint in
-    subst P (sym ((bytes_eq-Decides verb (codes "set")).0 front.0)) (set_words_at port value taint t front.1 parts.1 n cycles g)
+pub set_none : (words : List (List ℕ)) (port : List ℕ) (rest : List (List ℕ)) (w : Option WordText) → words ≡ port ∷ rest → option_map word_seen w ≡ tainted_said rest → w ≡ None → None ≡ set_said words
+set_none words port rest w is seen none = sym
+    (ap set_said is
+    ∙ ap (λ (t : Option TaintedWord). option_and_then (λ name. option_map (λ v. set_line name v) t) (decoded port)) (seen_none w rest seen none)
+    ∙ no_word set_line (decoded port))
 
--- other words
-pub not_set : (verb port value : List ℕ) (taint : Option (Bor (List ℕ))) → (bytes_eq verb (codes "set") && is_plain_word port && is_plain_word value) ≡ false → (n : Netlist) (cycles : ℕ) (g : GroupState) → step_of n cycles g (verb ∷ port ∷ value ∷ taint_words taint) ≡ None
-unfolding step_of set_step
-not_set verb port value None h n cycles g = not_set_by (bytes_eq verb (codes "set")) (is_plain_word port) (is_plain_word value) (is_plain_word verb) true (set_step n g port value None) h
-not_set verb port value (Some taint) h n cycles g = not_set_by (bytes_eq verb (codes "set")) (is_plain_word port) (is_plain_word value) (is_plain_word verb) (is_plain_word taint.now && true) (set_step n g port value (Some taint)) h
+no_mem_word : (name : Option (List ℕ)) (address : Option ℕ) → option_and_then (λ x. option_and_then (λ a. option_map (λ w. mem_line x a w) None) address) name ≡ None
+no_mem_word None address = refl
+no_mem_word (Some x) None = refl
+no_mem_word (Some x) (Some a) = refl
 
-pub coded_taint : (words : List (List ℕ)) (verb port value taint : List ℕ) → words ≡ verb ∷ port ∷ value ∷ taint ∷ [] → is_plain_word taint ≡ false → (n : Netlist) (cycles : ℕ) (g : GroupState) → step_of n cycles g words ≡ None
-unfolding step_of
-coded_taint words verb port value taint is h n cycles g =
-    ap (λ (ws : List (List ℕ)). if list_all is_plain_word ws then line_read n cycles g ws else None) is
-    ∙ not_plain_by (is_plain_word verb) (is_plain_word port) (is_plain_word value) (is_plain_word taint) (line_read n cycles g (verb ∷ port ∷ value ∷ taint ∷ [])) h
+pub mem_none : (words : List (List ℕ)) (cell address : List ℕ) (rest more : List (List ℕ)) (w : Option WordText) → words ≡ cell ∷ more → more ≡ address ∷ rest → option_map word_seen w ≡ tainted_said rest → w ≡ None → None ≡ mem_said words
+mem_none words cell address rest more w is next seen none = sym
+    (ap mem_said (is ∙ ap (λ (ws : List (List ℕ)). cell ∷ ws) next)
+    ∙ ap (λ (t : Option TaintedWord). option_and_then (λ name. option_and_then (λ a. option_map (λ v. mem_line name a v) t) (number_read address)) (decoded cell)) (seen_none w rest seen none)
+    ∙ no_mem_word (decoded cell) (number_read address))
 
-no_line : (n : Netlist) (cycles : ℕ) (g : GroupState) (words : List (List ℕ)) → has_form words ≡ false → line_read n cycles g words ≡ None
-no_line n cycles g [] h = refl
-no_line n cycles g (a ∷ []) h = refl
-no_line n cycles g (a ∷ b ∷ []) h = absurd (cc)
-no_line n cycles g (a ∷ b ∷ c ∷ []) h = absurd (cc)
-no_line n cycles g (a ∷ b ∷ c ∷ d ∷ []) h = absurd (cc)
-no_line n cycles g (a ∷ b ∷ c ∷ d ∷ e ∷ es) h = refl
+no_address : (w : Option TaintedWord) (name : Option (List ℕ)) → option_and_then (λ x. option_and_then (λ a. option_map (λ v. mem_line x a v) w) None) name ≡ None
+no_address w None = refl
+no_address w (Some x) = refl
 
--- fewer words than two, or more than four
-pub other_words : (words : List (List ℕ)) → has_form words ≡ false → (n : Netlist) (cycles : ℕ) (g : GroupState) → step_of n cycles g words ≡ None
-unfolding step_of
-other_words words h n cycles g = neither (list_all is_plain_word words) (line_read n cycles g words) (no_line n cycles g words h)
+pub mem_bad_address : (words : List (List ℕ)) (cell address : List ℕ) (rest more : List (List ℕ)) (number : Option ℕ) → words ≡ cell ∷ more → more ≡ address ∷ rest → number ≡ number_read address → number ≡ None → None ≡ mem_said words
+mem_bad_address words cell address rest more number is next read none = sym
+    (ap mem_said (is ∙ ap (λ (ws : List (List ℕ)). cell ∷ ws) next)
+    ∙ ap (λ (n : Option ℕ). option_and_then (λ name. option_and_then (λ a. option_map (λ v. mem_line name a v) (tainted_said rest)) n) (decoded cell)) (sym read ∙ none)
+    ∙ no_address (tainted_said rest) (decoded cell))
+
+-- ---- verbs
+
+abbrev is_reg : List ℕ → Bool
+is_reg verb = bytes_eq verb (codes "reg")
+
+abbrev is_mem : List ℕ → Bool
+is_mem verb = bytes_eq verb (codes "mem")
+
+abbrev is_release : List ℕ → Bool
+is_release verb = bytes_eq verb (codes "release")
+
+abbrev is_cycle : List ℕ → Bool
+is_cycle verb = bytes_eq verb (codes "@")
+
+abbrev is_set : List ℕ → Bool
+is_set verb = bytes_eq verb (codes "set")
+
+pub by_reg : (raw : Raw) (version : ℕ) (verb : List ℕ) (rest : List (List ℕ)) → is_reg verb ≡ true → reg_said rest ≡ said_by raw version verb rest
+by_reg raw version verb rest r = sym (ap (λ b. if b then reg_said rest else if is_mem verb then mem_said rest else if is_release verb && version == 2 then release_said raw rest else if is_cycle verb then cycle_said rest else if is_set verb then set_said rest else None) r)
+
+after_reg : (raw : Raw) (version : ℕ) (verb : List ℕ) (rest : List (List ℕ)) → is_reg verb ≡ false → (if is_mem verb then mem_said rest else if is_release verb && version == 2 then release_said raw rest else if is_cycle verb then cycle_said rest else if is_set verb then set_said rest else None) ≡ said_by raw version verb rest
+after_reg raw version verb rest r = sym (ap (λ b. if b then reg_said rest else if is_mem verb then mem_said rest else if is_release verb && version == 2 then release_said raw rest else if is_cycle verb then cycle_said rest else if is_set verb then set_said rest else None) r)
+
+pub by_mem : (raw : Raw) (version : ℕ) (verb : List ℕ) (rest : List (List ℕ)) → is_reg verb ≡ false → is_mem verb ≡ true → mem_said rest ≡ said_by raw version verb rest
+by_mem raw version verb rest r m =
+    sym (ap (λ b. if b then mem_said rest else if is_release verb && version == 2 then release_said raw rest else if is_cycle verb then cycle_said rest else if is_set verb then set_said rest else None) m) ∙ after_reg raw version verb rest r
+
+after_mem : (raw : Raw) (version : ℕ) (verb : List ℕ) (rest : List (List ℕ)) → is_reg verb ≡ false → is_mem verb ≡ false → (if is_release verb && version == 2 then release_said raw rest else if is_cycle verb then cycle_said rest else if is_set verb then set_said rest else None) ≡ said_by raw version verb rest
+after_mem raw version verb rest r m =
+    sym (ap (λ b. if b then mem_said rest else if is_release verb && version == 2 then release_said raw rest else if is_cycle verb then cycle_said rest else if is_set verb then set_said rest else None) m) ∙ after_reg raw version verb rest r
+
+pub by_release : (raw : Raw) (version : ℕ) (verb : List ℕ) (rest : List (List ℕ)) → is_reg verb ≡ false → is_mem verb ≡ false → (is_release verb && version == 2) ≡ true → release_said raw rest ≡ said_by raw version verb rest
+by_release raw version verb rest r m s =
+    sym (ap (λ b. if b then release_said raw rest else if is_cycle verb then cycle_said rest else if is_set verb then set_said rest else None) s) ∙ after_mem raw version verb rest r m
+
+after_release : (raw : Raw) (version : ℕ) (verb : List ℕ) (rest : List (List ℕ)) → is_reg verb ≡ false → is_mem verb ≡ false → (is_release verb && version == 2) ≡ false → (if is_cycle verb then cycle_said rest else if is_set verb then set_said rest else None) ≡ said_by raw version verb rest
+after_release raw version verb rest r m s =
+    sym (ap (λ b. if b then release_said raw rest else if is_cycle verb then cycle_said rest else if is_set verb then set_said rest else None) s) ∙ after_mem raw version verb rest r m
+
+pub by_cycle : (raw : Raw) (version : ℕ) (verb : List ℕ) (rest : List (List ℕ)) → is_reg verb ≡ false → is_mem verb ≡ false → (is_release verb && version == 2) ≡ false → is_cycle verb ≡ true → cycle_said rest ≡ said_by raw version verb rest
+by_cycle raw version verb rest r m s k =
+    sym (ap (λ b. if b then cycle_said rest else if is_set verb then set_said rest else None) k) ∙ after_release raw version verb rest r m s
+
+after_cycle : (raw : Raw) (version : ℕ) (verb : List ℕ) (rest : List (List ℕ)) → is_reg verb ≡ false → is_mem verb ≡ false → (is_release verb && version == 2) ≡ false → is_cycle verb ≡ false → (if is_set verb then set_said rest else None) ≡ said_by raw version verb rest
+after_cycle raw version verb rest r m s k =
+    sym (ap (λ b. if b then cycle_said rest else if is_set verb then set_said rest else None) k) ∙ after_release raw version verb rest r m s
+
+pub by_set : (raw : Raw) (version : ℕ) (verb : List ℕ) (rest : List (List ℕ)) → is_reg verb ≡ false → is_mem verb ≡ false → (is_release verb && version == 2) ≡ false → is_cycle verb ≡ false → is_set verb ≡ true → set_said rest ≡ said_by raw version verb rest
+by_set raw version verb rest r m s k t =
+    sym (ap (λ b. if b then set_said rest else None) t) ∙ after_cycle raw version verb rest r m s k
+
+pub by_none : (raw : Raw) (version : ℕ) (verb : List ℕ) (rest : List (List ℕ)) → is_reg verb ≡ false → is_mem verb ≡ false → (is_release verb && version == 2) ≡ false → is_cycle verb ≡ false → is_set verb ≡ false → None ≡ said_by raw version verb rest
+by_none raw version verb rest r m s k t =
+    sym (ap (λ b. if b then set_said rest else None) t) ∙ after_cycle raw version verb rest r m s k
+
+-- ---- whole lines
+
+pub not_visible : (raw : Raw) (version : ℕ) (words : List (List ℕ)) → list_all (list_all is_visible) words ≡ false → None ≡ line_said raw version words
+unfolding line_said
+not_visible raw version [] h = refl
+not_visible raw version (verb ∷ rest) h = sym (ap (λ b. if b then said_by raw version verb rest else None) h)
+
+pub no_verb : (raw : Raw) (version : ℕ) (words : List (List ℕ)) → words ≡ [] → None ≡ line_said raw version words
+unfolding line_said
+no_verb raw version words h = sym (ap (line_said raw version) h)
+
+pub by_verb : (raw : Raw) (version : ℕ) (words : List (List ℕ)) (verb : List ℕ) (rest : List (List ℕ)) → words ≡ verb ∷ rest → list_all (list_all is_visible) words ≡ true → said_by raw version verb rest ≡ line_said raw version words
+unfolding line_said
+by_verb raw version words verb rest is h =
+    sym (ap (λ b. if b then said_by raw version verb rest else None) (ap (list_all (list_all is_visible)) (sym is) ∙ h)) ∙ sym (ap (line_said raw version) is)

@@ -3,7 +3,7 @@ use Rattle.std.specs.Prelude.{ℕ, ◌<◌, ◌≤◌, ◌≡◌, nat_lt, Bool, 
 use Rattle.cif_defs.specs.Netlist.{Netlist, no_wire}
 use Rattle.cif_defs.specs.declared.nets.Wire.{Wire}
 use Rattle.cif_defs.specs.Stimulus.{Stimulus as StimulusData, StimLine as LineData, TaintedWord, unset, held_by, reg_line, mem_line, release_line, cycle_line, set_line}
-use Rattle.cif_stim.specs.Ports.{place_named}
+use Rattle.cif_stim.specs.Names.{place_named}
 use Rattle.cif_stim.specs.declared.inputs.InputMap.{InputMap}
 use Rattle.cif_stim.specs.declared.inputs.Inputs.{Inputs}
 

@@ -1,7 +1,8 @@
 -- Words that lines give, by the numbers of the lines.
-use Rattle.std.specs.Prelude.{ℕ, ◌≡◌, List, get_or, Option, Some, None}
+use Rattle.std.specs.Prelude.{ℕ, ◌≡◌, Bool, false, List, get_or, Option, Some, None}
+use Rattle.std.specs.List.{list_any}
 use Rattle.cif_defs.specs.Words.{bit}
-use Rattle.cif_defs.specs.Stimulus.{TaintedWord, StimLine as LineData, unset, started_by}
+use Rattle.cif_defs.specs.Stimulus.{TaintedWord, StimLine as LineData, unset, started_by, is_bit, reg_line, mem_line, release_line, cycle_line, set_line}
 use Rattle.cif_defs.specs.Cells.{Cell}
 use Rattle.cif_stim.specs.StimulusView.{tainted}
 use Rattle.cif_stim.specs.declared.line.Pair.{Pair}
@@ -29,3 +30,11 @@ pub record HasBits (w : TaintedWord) (i : ℕ) (pair : Pair) : Type 0 where
 -- lines turn bit i of the word with which a cell starts from one pair into another
 abbrev pub Starts : List LineData → Cell → ℕ → Pair → Pair → Type 0
 Starts lines c i given pair = (w : TaintedWord) → HasBits w i given → HasBits (started_by lines c w) i pair
+
+-- whether a line releases a net bit
+abbrev pub releases_bit : ℕ → LineData → Bool
+releases_bit b (release_line name bits) = list_any (is_bit b) bits
+releases_bit b (reg_line name w) = false
+releases_bit b (mem_line name address w) = false
+releases_bit b (cycle_line k) = false
+releases_bit b (set_line name w) = false

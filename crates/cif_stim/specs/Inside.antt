@@ -2,6 +2,7 @@
 use Rattle.std.specs.Prelude.{ℕ, ◌≤◌, ◌≡◌, false, List, map, length, drop}
 use Rattle.std.specs.List.{list_any}
 use Rattle.cif_defs.specs.Stimulus.{Stimulus as StimulusData}
+use Rattle.cif_stim.specs.Places.{IsOrdered}
 use Rattle.cif_stim.specs.StimulusView.{line_seen, is_start}
 use Rattle.cif_stim.specs.declared.line.StimLine.{StimLine}
 use Rattle.cif_stim.specs.declared.stimulus.Stimulus.TheInside.{Inside}
@@ -13,3 +14,8 @@ stimulus_seen s = record { cycles = s.cycles; lines = map line_seen s.lines.item
 pub record StartsBefore (n : ℕ) (lines : List StimLine) : Type 0 where
   pub inside : n ≤ length lines
   pub later : list_any is_start (drop n lines) ≡ false
+
+-- the lines are ordered, and those that name registers and memories come first
+pub record IsKept (s : Inside) : Type 0 where
+  pub starts : StartsBefore s.starts s.lines.items
+  pub ordered : IsOrdered (stimulus_seen s)

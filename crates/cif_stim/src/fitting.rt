@@ -1,106 +1,67 @@
 // Whether the lines of a stimulus fit a netlist.
-ghost use Rattle.std.specs.Prelude.{◌≡◌, ◌&&◌, ◌==◌, ◌≤◌, Some, None, map, length, bytes_eq, reverse, option_map, []};
+ghost use Rattle.std.specs.Prelude.{◌≡◌, ◌&&◌, ◌==◌, ◌≤◌, Some, None, is_some, map, length, bytes_eq, reverse, option_map, []};
 ghost use Rattle.std.specs.List.{find, list_any};
 ghost use Rattle.std.specs.Option.{option_copied};
 ghost use Rattle.cif_defs.specs.Accepted.{netlist_of};
+ghost use Rattle.cif_defs.specs.Cells.{Cell as CellData};
 ghost use Rattle.cif_defs.specs.declared.nets.Wire.{Wire as WireData};
-ghost use Rattle.cif_defs.specs.Kinds.{role_of};
-ghost use Rattle.cif_defs.specs.StimulusText.{settable};
 ghost use Rattle.cif_cells.specs.Wires.{found_seen};
 ghost use Rattle.cif_stim.specs.StimulusView.{line_seen, tainted};
-ghost use Rattle.cif_stim.specs.Fitting.{cell_named as cell_of_name, is_register as is_register_role, is_memory as is_memory_role, has_width as has_width_of, has_address as has_address_of, fits_register as fits_register_of, fits_memory as fits_memory_of, fits_found as fits_found_of, fits_port as fits_port_of, are_same_sources as are_same_sources_of, line_fits as line_fits_of, is_reg_of, is_mem_of, is_release_of, is_set_among, is_again as is_again_of, lines_fit as lines_fit_of};
+ghost use Rattle.cif_stim.specs.Fitting.{settable, register_named, memory_named, is_address, is_of_width as is_of_width_by, is_stored_by, is_held_by, is_found_as as is_found_as_of, are_same_sources as are_same_sources_of, fits_alone as fits_alone_of, is_reg_of, is_mem_of, is_release_of, is_set_among, is_again as is_again_of, lines_fit as lines_fit_of};
 
 use crate::line::StimLine;
-use crate::reader::is_clock;
+use crate::names::{is_clock, is_memory, is_register};
 use cif_bits::Bits;
 use cif_cells::table::role;
 use cif_cells::{Cell, Found, Netlist};
-use cif_defs::{Param, Role, Src, Wire};
+use cif_defs::{Param, Src, Wire};
 
-/// The cell of a name. It looks through the cells from the first on.
-fn cell_named<'a>(cells: &'a [Cell], name: &[u8]) -> Option<&'a Cell>
-    ensures { option_copied result ≡ cell_of_name cells.now name.now }
+/// The first cell of a name. It looks through the cells from the first on.
+fn cell_among<'a>(cells: &'a [Cell], name: &[u8]) -> Option<&'a Cell>
+    ensures { option_copied result ≡ find (λ (c : CellData). bytes_eq c.name name.now) cells.now }
 {
     cells.iter().find(|cell| cell.name().items() == name)
 }
 
-/// Whether a word and its taint have so many bits.
-fn has_width(value: &Bits, taint: &Bits, width: u64) -> bool
-    ensures { result ≡ has_width_of (tainted value.now taint.now) width }
+/// The cell of a name.
+fn cell_named<'a>(netlist: &'a Netlist, name: &[u8]) -> Option<&'a Cell>
+    ensures { option_copied result ≡ find (λ (c : CellData). bytes_eq c.name name.now)
+        (netlist_of netlist.now).cells }
 {
-    value.bits().len() as u64 == width && taint.bits().len() as u64 == width
+    cell_among(netlist.cells(), name)
 }
 
-/// Whether a role is that of a register.
-fn is_register(role: Role) -> bool
-    ensures { result ≡ is_register_role role }
+/// The register of a name.
+#[tactic(auto, unfolding(crate::specs::Fitting::register_named))]
+fn register<'a>(netlist: &'a Netlist, name: &[u8]) -> Option<&'a Cell>
+    ensures { option_copied result ≡ register_named (netlist_of netlist.now) name.now }
 {
-    match role {
-        Role::PlainRegister | Role::ResetRegister => true,
-        Role::MemoryBlock | Role::Combinational | Role::CarriedOver => false,
-    }
-}
-
-/// Whether a role is that of a memory.
-fn is_memory(role: Role) -> bool
-    ensures { result ≡ is_memory_role role }
-{
-    match role {
-        Role::MemoryBlock => true,
-        Role::PlainRegister | Role::ResetRegister | Role::Combinational | Role::CarriedOver => {
-            false
-        }
-    }
-}
-
-/// Whether a memory has a row of an address.
-fn has_address(cell: &Cell, address: u64) -> bool
-    ensures { result ≡ has_address_of cell.now address }
-{
-    let offset = cell.number(Param::Offset);
-    address >= offset && address - offset < cell.number(Param::Size)
-}
-
-/// Whether there is a register, and a word has its width.
-fn fits_register(cell: Option<&Cell>, value: &Bits, taint: &Bits) -> bool
-    ensures { result ≡ fits_register_of (tainted value.now taint.now) (option_copied cell.entry) }
-{
-    match cell {
+    match cell_named(netlist, name) {
         Some(cell) => {
-            is_register(role(cell.kind())) && has_width(value, taint, cell.number(Param::Width))
+            if is_register(role(cell.kind())) {
+                Some(cell)
+            } else {
+                None
+            }
         }
-        None => false,
+        None => None,
     }
 }
 
-/// Whether there is a memory, it has an address, and a word has its width.
-pub fn fits_memory(cell: Option<&Cell>, address: u64, value: &Bits, taint: &Bits) -> bool
-    ensures { result ≡ fits_memory_of address (tainted value.now taint.now) (option_copied cell.entry) }
+/// The memory of a name.
+#[tactic(auto, unfolding(crate::specs::Fitting::memory_named))]
+fn memory<'a>(netlist: &'a Netlist, name: &[u8]) -> Option<&'a Cell>
+    ensures { option_copied result ≡ memory_named (netlist_of netlist.now) name.now }
 {
-    match cell {
+    match cell_named(netlist, name) {
         Some(cell) => {
-            is_memory(role(cell.kind()))
-                && has_address(cell, address)
-                && has_width(value, taint, cell.number(Param::Width))
+            if is_memory(role(cell.kind())) {
+                Some(cell)
+            } else {
+                None
+            }
         }
-        None => false,
-    }
-}
-
-/// Whether bits are the same, one by one.
-fn are_same_sources(first: &[Src], second: &[Src]) -> bool
-    ensures { result ≡ are_same_sources_of first.now second.now }
-{
-    first == second
-}
-
-/// Whether what a name gives is a wire of these bits.
-fn fits_found(found: Found<'_>, bits: &[Src]) -> bool
-    ensures { result ≡ fits_found_of bits.now (found_seen found.entry) }
-{
-    match found {
-        Found::Wire(wire) => are_same_sources(wire.items(), bits),
-        Found::NotTwoValued | Found::Missing => false,
+        None => None,
     }
 }
 
@@ -112,7 +73,7 @@ fn port_named<'a>(ports: &'a [Wire], name: &[u8]) -> Option<&'a Wire>
 }
 
 /// The input port of a name, other than the clock.
-#[tactic(auto, unfolding(cif_defs::specs::StimulusText::settable))]
+#[tactic(auto, unfolding(crate::specs::Fitting::settable))]
 fn settable_port<'a>(netlist: &'a Netlist, name: &[u8]) -> Option<&'a Wire>
     ensures { option_copied result ≡ settable (netlist_of netlist.now) name.now }
 {
@@ -128,34 +89,89 @@ fn settable_port<'a>(netlist: &'a Netlist, name: &[u8]) -> Option<&'a Wire>
     }
 }
 
-/// Whether there is a port, and a word has its width.
-fn fits_port(port: Option<&Wire>, value: &Bits, taint: &Bits) -> bool
-    ensures { result ≡ fits_port_of (tainted value.now taint.now) (option_copied port.entry) }
+/// Whether a word and its taint have so many bits.
+fn is_of_width(value: &Bits, taint: &Bits, width: u64) -> bool
+    ensures { result ≡ is_of_width_by (tainted value.now taint.now) width }
 {
-    match port {
-        Some(port) => has_width(value, taint, port.items().len() as u64),
+    value.bits().len() as u64 == width && taint.bits().len() as u64 == width
+}
+
+/// Whether a memory has a row of an address.
+pub fn has_address(cell: &Cell, address: u64) -> bool
+    ensures { result ≡ is_address address (Some cell.now) }
+{
+    let offset = cell.number(Param::Offset);
+    address >= offset && address - offset < cell.number(Param::Size)
+}
+
+/// Whether there is a register, and a word has its width.
+fn fits_register(cell: Option<&Cell>, value: &Bits, taint: &Bits) -> bool
+    ensures { result ≡ (is_some (option_copied cell.entry)
+        && is_stored_by (tainted value.now taint.now) (option_copied cell.entry)) }
+{
+    match cell {
+        Some(cell) => is_of_width(value, taint, cell.number(Param::Width)),
         None => false,
     }
 }
 
-/// Whether a line fits a netlist by itself.
-fn line_fits(netlist: &Netlist, line: &StimLine) -> bool
-    ensures { result ≡ line_fits_of netlist.now (line_seen line.now) }
+/// Whether there is a memory, it has an address, and a word has its width.
+pub fn fits_memory(cell: Option<&Cell>, address: u64, value: &Bits, taint: &Bits) -> bool
+    ensures { result ≡ (is_some (option_copied cell.entry)
+        && is_address address (option_copied cell.entry)
+        && is_stored_by (tainted value.now taint.now) (option_copied cell.entry)) }
+{
+    match cell {
+        Some(cell) => {
+            has_address(cell, address) && is_of_width(value, taint, cell.number(Param::Width))
+        }
+        None => false,
+    }
+}
+
+/// Whether bits are the same, one by one.
+fn are_same_sources(first: &[Src], second: &[Src]) -> bool
+    ensures { result ≡ are_same_sources_of first.now second.now }
+{
+    first == second
+}
+
+/// Whether what a name gives is a wire of these bits.
+fn is_found_as(found: Found<'_>, bits: &[Src]) -> bool
+    ensures { result ≡ is_found_as_of bits.now (found_seen found.entry) }
+{
+    match found {
+        Found::Wire(wire) => are_same_sources(wire.items(), bits),
+        Found::NotTwoValued | Found::Missing => false,
+    }
+}
+
+/// Whether there is a port, and a word has its width.
+fn fits_port(port: Option<&Wire>, value: &Bits, taint: &Bits) -> bool
+    ensures { result ≡ (is_some (option_copied port.entry)
+        && is_held_by (tainted value.now taint.now) (option_copied port.entry)) }
+{
+    match port {
+        Some(port) => is_of_width(value, taint, port.items().len() as u64),
+        None => false,
+    }
+}
+
+/// Whether what a line names is there, with its address and its width.
+fn fits_alone(netlist: &Netlist, line: &StimLine) -> bool
+    ensures { result ≡ fits_alone_of netlist.now (line_seen line.now) }
 {
     match line {
         StimLine::Reg { cell, value, taint } => {
-            fits_register(cell_named(netlist.cells(), cell.items()), value, taint)
+            fits_register(register(netlist, cell.items()), value, taint)
         }
         StimLine::Mem {
             cell,
             address,
             value,
             taint,
-        } => {
-            let memory = cell_named(netlist.cells(), cell.items());
-            fits_memory(memory, *address, value, taint)
-        }
-        StimLine::Release { name, wire } => fits_found(netlist.find(name.items()), wire.items()),
+        } => fits_memory(memory(netlist, cell.items()), *address, value, taint),
+        StimLine::Release { name, wire } => is_found_as(netlist.find(name.items()), wire.items()),
         StimLine::Cycle(_) => true,
         StimLine::Set { port, value, taint } => {
             fits_port(settable_port(netlist, port.items()), value, taint)
@@ -230,7 +246,7 @@ fn is_set(lines: &[StimLine], name: &[u8]) -> bool
         end -= 1;
         match &lines[end] {
             StimLine::Cycle(_) => return false,
-            StimLine::Set { port, .. } if name == port.items() => return true,
+            StimLine::Set { port, .. } if port.items() == name => return true,
             _ => {}
         }
     }
@@ -256,7 +272,7 @@ pub fn lines_fit(netlist: &Netlist, lines: &[StimLine]) -> bool
 {
     for number in 0..lines.len() {
         let line = &lines[number];
-        if !line_fits(netlist, line) || is_again(line, &lines[..number]) {
+        if !fits_alone(netlist, line) || is_again(line, &lines[..number]) {
             return false;
         }
     }

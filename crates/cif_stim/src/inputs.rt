@@ -7,13 +7,13 @@ ghost use Rattle.cif_defs.specs.declared.nets.Wire.{Wire};
 ghost use Rattle.cif_defs.specs.Stimulus.{Stimulus as StimulusData, input_at};
 ghost use Rattle.cif_stim.specs.declared.inputs.InputMap.{InputMap as NamesData};
 ghost use Rattle.cif_stim.specs.StimulusView.{line_seen};
-ghost use Rattle.cif_stim.specs.Ports.{IsTable, place_named};
+ghost use Rattle.cif_stim.specs.Names.{IsTable, place_named, port_name};
 ghost use Rattle.cif_stim.specs.Cursor.{IsMapOf, IsAt, Passes, Stops, target_of, is_later_line, setters_after, cycle_of};
 
-use crate::line::{Pair, StimLine};
-use crate::ports::PortTable;
+use crate::line::{Held, Pair, StimLine};
+use crate::names::NameTable;
 use crate::stimulus::Stimulus;
-use crate::walk::set_pair;
+use crate::walk::{set_pair, set_words};
 use cif_bits::NoMemory;
 use cif_cells::Netlist;
 use cif_defs::Wire;
@@ -39,12 +39,8 @@ pub struct Inputs {
 }
 
 /// For each port the place of the first port of its name.
-fn homes_of<'a>(
-    alloc: Global,
-    table: &PortTable<'a>,
-    ports: &'a [Wire],
-) -> Result<Vec<usize>, AllocError>
-    requires { IsTable ports.now table.now }
+fn homes_of(alloc: Global, table: &NameTable, ports: &[Wire]) -> Result<Vec<usize>, AllocError>
+    requires { IsTable port_name ports.now table.now }
     ensures as_many { IfOk result (λ v. length v.items ≡ length ports.now) }
     ensures places { IfOk result (λ v. (p : ℕ) → p < length ports.now
         → place_named ports.now (get_or ports.now p no_wire).name ≡ Some (get_or v.items p 0)) }
@@ -57,8 +53,8 @@ fn homes_of<'a>(
 }
 
 /// The place of the first port of the name that a line sets.
-fn target<'a>(table: &PortTable<'a>, line: &'a StimLine) -> Option<usize>
-    ensures { (ports : List Wire) → IsTable ports table.now
+fn target(table: &NameTable, line: &StimLine) -> Option<usize>
+    ensures { (ports : List Wire) → IsTable port_name ports table.now
         → result ≡ target_of ports (line_seen line.now) }
 {
     match line {
@@ -71,12 +67,12 @@ fn target<'a>(table: &PortTable<'a>, line: &'a StimLine) -> Option<usize>
 }
 
 /// For each line the place of the first port of the name that it sets.
-fn targets_of<'a>(
+fn targets_of(
     alloc: Global,
-    table: &PortTable<'a>,
-    lines: &'a [StimLine],
+    table: &NameTable,
+    lines: &[StimLine],
 ) -> Result<Vec<Option<usize>>, AllocError>
-    ensures { IfOk result (λ v. (ports : List Wire) → IsTable ports table.now
+    ensures { IfOk result (λ v. (ports : List Wire) → IsTable port_name ports table.now
         → v.items ≡ map (target_of ports) (map line_seen lines.now)) }
 {
     let mut targets = Vec::with_capacity(alloc, lines.len())?;
@@ -144,15 +140,11 @@ fn pass(
 
 impl InputMap {
     /// Looks the names of a stimulus up.
-    pub fn of<'a>(
-        alloc: Global,
-        netlist: &'a Netlist,
-        stimulus: &'a Stimulus,
-    ) -> Result<InputMap, NoMemory>
+    pub fn of(alloc: Global, netlist: &Netlist, stimulus: &Stimulus) -> Result<InputMap, NoMemory>
         ensures { IfOk result (λ m. IsMapOf (netlist_of netlist.now) stimulus.now m) }
     {
         let ports = netlist.inputs();
-        let table = PortTable::of(alloc, ports)?;
+        let table = NameTable::of_ports(alloc, ports)?;
         let homes = homes_of(alloc, &table, ports)?;
         let targets = targets_of(alloc, &table, stimulus.lines())?;
         Ok(InputMap { homes, targets })
@@ -240,5 +232,23 @@ impl Inputs {
     {
         let home = names.homes[port as usize];
         set_pair(stimulus.lines(), self.setters[home], index)
+    }
+    /// The word that an input port holds at the cycle.
+    pub fn held<'s>(
+        &self,
+        _netlist: &Netlist,
+        names: &InputMap,
+        stimulus: &'s Stimulus,
+        port: u32,
+    ) -> Held<'s>
+        requires at { IsAt (netlist_of _netlist.now) stimulus.now names.now self.now }
+        requires port { port < length (netlist_of _netlist.now).inputs }
+        ensures value { result.value.now
+            ≡ (input_at (netlist_of _netlist.now) stimulus.now (cycle_of self.now) port).value }
+        ensures taint { result.taint.now
+            ≡ (input_at (netlist_of _netlist.now) stimulus.now (cycle_of self.now) port).taint }
+    {
+        let home = names.homes[port as usize];
+        set_words(stimulus.lines(), self.setters[home])
     }
 }

@@ -6,19 +6,28 @@ mod fault;
 mod fit_tests;
 mod fitting;
 mod form;
+mod given;
 mod inputs;
 mod line;
-mod ports;
+mod names;
+#[cfg(test)]
+mod netlists;
 mod read;
+#[cfg(test)]
+mod read_tests;
 mod reader;
 mod stimulus;
 #[cfg(test)]
 mod tests;
 mod text;
 mod walk;
+mod write;
+#[cfg(test)]
+mod write_tests;
 
 pub use fault::StimFault;
 pub use inputs::{InputMap, Inputs};
 pub use line::{Held, Pair, StimLine};
 pub use read::read_stimulus;
 pub use stimulus::Stimulus;
+pub use write::write_stimulus;

@@ -1,135 +1,191 @@
 // Reading a stimulus from its text.
-ghost use Rattle.std.specs.Prelude.{◌≡◌, ◌<◌, [], Some, None, true, IfOk, IfErr, IfSome, IsNone, if◌then◌else◌};
-ghost use Rattle.cif_defs.specs.Accepted.{netlist_of};
-ghost use Rattle.cif_defs.specs.Netlist.{Netlist as NetlistData};
-ghost use Rattle.cif_defs.specs.Text.{words_of};
-ghost use Rattle.cif_defs.specs.StimulusText.{stimulus_read, is_version_line, cycles_read, is_cycle_count};
-ghost use Rattle.cif_stim.specs.Ports.{IsTable};
-ghost use Rattle.cif_stim.specs.Reading.{IsReading, Refuses, lines_in};
-ghost use Rattle.cif_stim.specs.Heads.{IsHead};
-ghost use Rattle.cif_stim.specs.Fitting.{fits_of, lines_fit};
+ghost use Rattle.std.specs.Prelude.{◌≡◌, ◌<◌, ◌≤◌, ◌+◌, ◌^◌, [], Ok, true, length, bytes_eq, codes, IfOk, IfErr};
+ghost use Rattle.cif_defs.specs.Text.{words_of, lines_of};
+ghost use Rattle.cif_defs.specs.declared.raw_module.Raw.{Raw as RawData};
+ghost use Rattle.cif_stim.specs.Fitting.{fits_of};
+ghost use Rattle.cif_stim.specs.Names.{IsDirectory};
+ghost use Rattle.cif_stim.specs.Places.{is_cycle_count};
+ghost use Rattle.cif_stim.specs.Reading.{IsReading, IsFirst, IsHead};
+ghost use Rattle.cif_stim.specs.StimulusText.{numbered, lines_read, stimulus_read, version_said, cycles_said, version_read as version_read_of, cycles_read as cycles_read_of, ◌and_then◌};
 
 use crate::fault::StimFault;
-use crate::ports::PortTable;
+use crate::names::Directory;
 use crate::reader::Reader;
 use crate::stimulus::Stimulus;
-use crate::text::{Words, read_number, split_line, split_words};
+use crate::text::{Line, first_word, next_line, only_word, read_number};
 use cif_cells::Netlist;
 use std::alloc::Global;
 
 const CYCLE_LIMIT: u64 = 1_000_000;
 
-/// The number of cycles of a stimulus, and the text after the line that gives it.
+/// What the first two lines say, and the text after them.
 #[derive(Clone, Copy)]
 struct Head<'a> {
+    version: u64,
     cycles: u64,
+    // The number of the first line of the rest.
+    number: u64,
     rest: &'a [u8],
 }
 
-/// Whether a line names this kind of file and its first version.
-fn is_version(line: &[u8]) -> bool
-    ensures { result ≡ is_version_line (words_of line.now) }
+/// Whether a word is that with which each stimulus begins.
+fn is_title(word: &[u8]) -> bool
+    ensures { result ≡ bytes_eq word.now (codes "cellift-stimulus") }
 {
-    let Words::Two(head, version) = split_words(line) else {
-        return false;
-    };
-    head == b"cellift-stimulus".as_slice() && version == b"1".as_slice()
+    word == b"cellift-stimulus".as_slice()
+}
+
+/// Whether a word is that of the number of cycles.
+fn is_cycles(word: &[u8]) -> bool
+    ensures { result ≡ bytes_eq word.now (codes "cycles") }
+{
+    word == b"cycles".as_slice()
+}
+
+/// Whether a word is the first version.
+fn is_first(word: &[u8]) -> bool
+    ensures { result ≡ bytes_eq word.now (codes "1") }
+{
+    word == b"1".as_slice()
+}
+
+/// Whether a word is the second version.
+fn is_second(word: &[u8]) -> bool
+    ensures { result ≡ bytes_eq word.now (codes "2") }
+{
+    word == b"2".as_slice()
+}
+
+/// The version that a line names, which is 1 or 2.
+fn version_of(line: &[u8]) -> Option<u64>
+    ensures { result ≡ version_said (words_of line.now) }
+{
+    let title = first_word(line)?;
+    let version = only_word(title.rest)?;
+    if !is_title(title.word) {
+        return None;
+    }
+    if is_first(version) {
+        return Some(1);
+    }
+    if is_second(version) {
+        return Some(2);
+    }
+    None
 }
 
 /// The number of cycles that a line gives.
-fn read_cycles(line: &[u8]) -> Option<u64>
-    ensures { result ≡ cycles_read (words_of line.now) }
+fn count_of(line: &[u8]) -> Option<u64>
+    ensures { result ≡ cycles_said (words_of line.now) }
 {
-    let Words::Two(head, count) = split_words(line) else {
-        return None;
-    };
-    if head != b"cycles".as_slice() {
-        return None;
-    }
-    limited(read_number(count)?)
-}
-
-/// A number of cycles that a stimulus may have.
-fn limited(cycles: u64) -> Option<u64>
-    ensures { result ≡ (if is_cycle_count cycles then Some cycles else None) }
-{
-    if cycles >= 1 && cycles <= CYCLE_LIMIT {
-        Some(cycles)
+    let verb = first_word(line)?;
+    let count = only_word(verb.rest)?;
+    if is_cycles(verb.word) {
+        read_number(count)
     } else {
         None
     }
 }
 
+/// Reads the version.
+fn read_version(line: &Line<'_>) -> Result<u64, StimFault>
+    ensures ok { IfOk result (λ v. version_read_of
+        (record { number = line.now.number; words = words_of line.now.text.now }) ≡ Ok v) }
+    ensures err { IfErr result (IsFirst (version_read_of
+        (record { number = line.now.number; words = words_of line.now.text.now }))) }
+{
+    version_of(line.text).ok_or(StimFault::BadLine(line.number))
+}
+
+/// Reads the number of cycles, from 1 to 1,000,000.
+fn read_cycles(line: &Line<'_>) -> Result<u64, StimFault>
+    ensures ok { IfOk result (λ n. cycles_read_of
+        (record { number = line.now.number; words = words_of line.now.text.now }) ≡ Ok n) }
+    ensures count { IfOk result (λ n. is_cycle_count n ≡ true) }
+    ensures err { IfErr result (IsFirst (cycles_read_of
+        (record { number = line.now.number; words = words_of line.now.text.now }))) }
+{
+    let Some(count) = count_of(line.text) else {
+        return Err(StimFault::BadLine(line.number));
+    };
+    if count == 0 {
+        return Err(StimFault::NoCycles);
+    }
+    if count > CYCLE_LIMIT {
+        return Err(StimFault::TooManyCycles);
+    }
+    Ok(count)
+}
+
 /// Reads the first two lines.
-fn read_head(bytes: &[u8]) -> Option<Head<'_>>
-    ensures some { IfSome result (λ h. IsHead bytes.now h) }
-    ensures none { IsNone result → (n : NetlistData) → stimulus_read n bytes.now ≡ None }
+fn read_head(bytes: &[u8]) -> Result<Head<'_>, StimFault>
+    ensures ok { IfOk result (IsHead bytes.now) }
+    ensures count { IfOk result (λ h. is_cycle_count h.cycles ≡ true) }
+    ensures numbers { IfOk result (λ h. h.number + length h.rest.now < 2 ^ 64) }
+    ensures err { IfErr result (λ e. (raw : RawData) → IsFirst (stimulus_read raw bytes.now) e) }
 {
     if bytes.is_empty() {
-        return None;
+        return Err(StimFault::BadLine(1));
     }
-    let (first, others) = split_line(bytes);
-    if !is_version(first) {
-        return None;
-    }
-    if others.is_empty() {
-        return None;
-    }
-    let (second, rest) = split_line(others);
-    let cycles = read_cycles(second)?;
-    Some(Head { cycles, rest })
+    let Some(first) = next_line(bytes, 1) else {
+        return Err(StimFault::NoCycles);
+    };
+    let version = read_version(&first)?;
+    let Some(second) = next_line(first.rest, first.number + 1) else {
+        return Err(StimFault::NoCycles);
+    };
+    let cycles = read_cycles(&second)?;
+    Ok(Head {
+        version,
+        cycles,
+        number: second.number + 1,
+        rest: second.rest,
+    })
 }
 
 /// Reads the lines after the first two.
-fn read_groups<'a>(
+fn read_lines<'a>(
     alloc: Global,
-    netlist: &Netlist,
-    table: &PortTable<'a>,
-    mut reader: Reader,
-    text: &'a [u8],
+    netlist: &'a Netlist,
+    directory: &Directory,
+    head: &Head<'_>,
 ) -> Result<Stimulus, StimFault>
-    requires table { IsTable (netlist_of netlist.now).inputs table.now }
-    requires state { IsReading (netlist_of netlist.now) reader }
-    requires start { reader.stimulus.lines ≡ [] }
-    ensures lines { IfOk result
-        (λ s. lines_in (netlist_of netlist.now) reader.stimulus.cycles text.now ≡ Some s.lines) }
-    ensures cycles { IfOk result (λ s. s.cycles ≡ reader.stimulus.cycles) }
-    ensures fits { IfOk result (λ s. lines_fit netlist.now [] s.lines ≡ true) }
-    ensures err { IfErr result (λ e. Refuses
-        (lines_in (netlist_of netlist.now) reader.stimulus.cycles text.now) e) }
+    requires directory { IsDirectory netlist.now directory.now }
+    requires count { is_cycle_count head.now.cycles ≡ true }
+    requires numbers { head.now.number + length head.now.rest.now < 2 ^ 64 }
+    ensures lines { IfOk result (λ s. lines_read netlist.now
+        (record { version = head.now.version; cycles = head.now.cycles }) []
+        (numbered head.now.number (lines_of head.now.rest.now)) ≡ Ok s.lines) }
+    ensures cycles { IfOk result (λ s. s.cycles ≡ head.now.cycles) }
+    ensures err { IfErr result (IsFirst (lines_read netlist.now
+        (record { version = head.now.version; cycles = head.now.cycles }) []
+        (numbered head.now.number (lines_of head.now.rest.now)))) }
 {
-    let mut rest = text;
-    while !rest.is_empty() {
-        let (line, after) = split_line(rest);
-        reader.take_line(alloc, netlist, table, line)?;
-        rest = after;
+    let mut reader = Reader::new(alloc, head.cycles)?;
+    let mut rest = head.rest;
+    let mut number = head.number;
+    while let Some(line) = next_line(rest, number) {
+        reader.take_line(alloc, netlist, directory, head.version, &line)?;
+        rest = line.rest;
+        number = line.number + 1;
     }
     Ok(reader.finish())
 }
 
-/// The stimulus of a text, for a netlist.
+/// The stimulus of a text, for a netlist, which it fits.
 ///
-/// So far the form is this: the lines `cellift-stimulus 1` and `cycles N`, with N from 1 to 1,000,000, and then groups of
-/// a line `@ K` and lines `set PORT WORD [TAINT]`. K rises from group to group and is below N. A port is an input port
-/// other than the clock, its word has as many binary digits as the port has bits, the highest first, and so has the
-/// taint, which is all 0 where it is left out. No port is set twice in a group. One space separates words, a name has
-/// no byte that needs a coding, and no line is skipped. All other texts are `NotBuilt`. What is read fits the netlist.
-#[tactic(auto, unfolding(crate::specs::Fitting::fits_of))]
-pub fn read_stimulus<'a>(
-    alloc: Global,
-    netlist: &'a Netlist,
-    bytes: &'a [u8],
-) -> Result<Stimulus, StimFault>
-    ensures ok { IfOk result
-        (λ s. stimulus_read (netlist_of netlist.now) bytes.now ≡ Some s) }
+/// The first line that fails gives the fault. Within a line the order is this: the line has no form that may stand at its
+/// place (`BadLine`); on the line of the number of cycles that number is 0 (`NoCycles`) or above 1,000,000
+/// (`TooManyCycles`); it names what isn't there (`NoSuchName`), or an address that a memory lacks (`BadAddress`); a word
+/// has another width than what is named (`WrongWidth`); what it gives was given before (`SetTwice`). An empty text is
+/// `BadLine(1)`, and one that ends before the number of cycles is `NoCycles`. Want of memory is `Memory`.
+pub fn read_stimulus(alloc: Global, netlist: &Netlist, bytes: &[u8]) -> Result<Stimulus, StimFault>
+    ensures ok { IfOk result (λ s. stimulus_read netlist.now bytes.now ≡ Ok s) }
     ensures fits { IfOk result (λ s. fits_of netlist.now s ≡ true) }
-    ensures err { IfErr result
-        (λ e. Refuses (stimulus_read (netlist_of netlist.now) bytes.now) e) }
+    ensures err { IfErr result (IsFirst (stimulus_read netlist.now bytes.now)) }
 {
-    let Some(head) = read_head(bytes) else {
-        return Err(StimFault::NotBuilt);
-    };
-    let table = PortTable::of(alloc, netlist.inputs())?;
-    let reader = Reader::new(alloc, netlist, head.cycles)?;
-    read_groups(alloc, netlist, &table, reader, head.rest)
+    let head = read_head(bytes)?;
+    let directory = Directory::of(alloc, netlist)?;
+    let stimulus = read_lines(alloc, netlist, &directory, &head)?;
+    Ok(stimulus)
 }

@@ -1,22 +1,26 @@
 // A stimulus.
-ghost use Rattle.std.specs.Prelude.{◌≡◌, ◌<◌, ◌++◌, ◌∷◌, [], map, length, IfOk, OnOk, OnErr};
+ghost use Rattle.std.specs.Prelude.{◌≡◌, ◌<◌, ◌++◌, ◌∷◌, [], map, length, reverse, true, false, IfOk, OnOk, OnErr};
+ghost use Rattle.std.specs.List.{list_any};
 ghost use Rattle.cif_defs.specs.Words.{bit};
 ghost use Rattle.cif_defs.specs.Accepted.{netlist_of};
-ghost use Rattle.cif_defs.specs.Stimulus.{input_at, held_by, unset, start_at, reg_line, mem_line, release_line, cycle_line, set_line};
+ghost use Rattle.cif_defs.specs.Stimulus.{input_at, held_by, unset, start_at, is_released as is_released_by, reg_line, mem_line, release_line, cycle_line, set_line};
 ghost use Rattle.cif_stim.specs.StimulusView.{line_seen, tainted, Adds};
-ghost use Rattle.cif_stim.specs.Fitting.{fits_of};
+ghost use Rattle.cif_stim.specs.Fitting.{fits_of, is_release_of};
+ghost use Rattle.cif_stim.specs.Places.{IsOrdered, is_cycle_count, may_follow, is_written};
 
 use crate::fitting::lines_fit;
 use crate::line::{Held, Pair, StimLine};
-use crate::walk::{last_set, set_pair, set_words, started_pair, stores};
+use crate::walk::{are_released, last_set, set_pair, set_words, started_pair, stores};
 use cif_bits::{Bits, NoMemory};
 use cif_cells::Netlist;
-use cif_defs::{Name, Wire};
+use cif_defs::{Name, NetBit, Wire};
 use std::alloc::Global;
 use std::marker::Model;
 
 /// What is given to a netlist: what its registers and memories start with, which nets are released, and what its
-/// inputs are set to, cycle by cycle. Contracts see it as its number of cycles and its lines.
+/// inputs are set to, cycle by cycle. Contracts see it as its number of cycles, which is 1 to 1,000,000, and its lines:
+/// first what cells start with and what is released, then groups of sets, each begun by a cycle below that number and
+/// above the one before. A name has at least one byte, a word at least one bit, and its taint as many.
 #[derive(Drop)]
 pub struct Stimulus {
     cycles: u64,
@@ -30,16 +34,17 @@ impl Model for Stimulus {
 
     ghost Value = { StimulusData };
 
-    ghost use Rattle.cif_stim.specs.Inside.{stimulus_seen, StartsBefore};
+    ghost use Rattle.cif_stim.specs.Inside.{stimulus_seen, IsKept};
 
     ghost view = { stimulus_seen };
 
-    ghost invariant = { λ s. StartsBefore s.starts s.lines.items };
+    ghost invariant = { IsKept };
 }
 
 impl Stimulus {
-    /// A stimulus of so many cycles, without lines.
+    /// A stimulus of so many cycles, from 1 to 1,000,000, without lines.
     pub fn new(alloc: Global, cycles: u64) -> Result<Stimulus, NoMemory>
+        requires { is_cycle_count cycles ≡ true }
         ensures { IfOk result (λ s. s ≡ record { cycles = cycles; lines = [] }) }
     {
         Ok(Stimulus {
@@ -56,15 +61,16 @@ impl Stimulus {
         self.cycles
     }
 
-    /// Its lines after that of the number of cycles, in order.
+    /// Its lines after that of the number of cycles, in order. Each stands where it may.
     pub fn lines(&self) -> &[StimLine]
-        ensures { map line_seen result.now ≡ self.now.lines }
+        ensures value { map line_seen result.now ≡ self.now.lines }
+        ensures ordered { IsOrdered self.now }
     {
         &self.lines
     }
 }
 
-/// What it gives to a netlist. Both calls walk over lines.
+/// What it gives to a netlist. Each call walks over lines.
 impl Stimulus {
     /// What bit `index` of an input port holds at a cycle; a bit past the port's word is 0.
     pub fn input(&self, netlist: &Netlist, port: u32, index: u32, cycle: u64) -> Pair
@@ -109,6 +115,13 @@ impl Stimulus {
         };
         started_pair(&self.lines[..self.starts], owner, index, given)
     }
+
+    /// Whether some line releases a net bit.
+    pub fn released(&self, bit: NetBit) -> bool
+        ensures { result ≡ is_released_by self.now.lines bit }
+    {
+        are_released(&self.lines, bit)
+    }
 }
 
 /// Whether its lines are those of a netlist.
@@ -133,7 +146,10 @@ impl Stimulus {
     }
 }
 
-/// Lines, one after another. A call that finds no memory leaves the stimulus as it was.
+/// Lines, one after another. A line is added only where it may stand after those that are there: what registers and
+/// memories start with and releases before the first cycle, sets after it, and cycles that rise and lie below the number
+/// of cycles. Names have at least one byte, words at least one bit, and taints as many. A call that finds no memory leaves
+/// the stimulus as it was.
 impl Stimulus {
     /// Adds the word with which a register starts.
     pub fn push_reg(
@@ -143,6 +159,9 @@ impl Stimulus {
         value: Bits,
         taint: Bits,
     ) -> Result<(), NoMemory>
+        requires place { may_follow self.old.cycles (reverse self.old.lines)
+            (reg_line cell (tainted value taint)) ≡ true }
+        requires written { is_written (reg_line cell (tainted value taint)) ≡ true }
         ensures ok { OnOk result (Adds self.old self.new (reg_line cell (tainted value taint))) }
         ensures err { OnErr result (self.new ≡ self.old) }
     {
@@ -160,6 +179,9 @@ impl Stimulus {
         value: Bits,
         taint: Bits,
     ) -> Result<(), NoMemory>
+        requires place { may_follow self.old.cycles (reverse self.old.lines)
+            (mem_line cell address (tainted value taint)) ≡ true }
+        requires written { is_written (mem_line cell address (tainted value taint)) ≡ true }
         ensures ok { OnOk result
             (Adds self.old self.new (mem_line cell address (tainted value taint))) }
         ensures err { OnErr result (self.new ≡ self.old) }
@@ -174,8 +196,12 @@ impl Stimulus {
         Ok(())
     }
 
-    /// Adds the release of a net.
+    /// Adds the release of a net by a name that wasn't released before.
     pub fn push_release(&mut self, alloc: Global, name: Name, wire: &Wire) -> Result<(), NoMemory>
+        requires place { may_follow self.old.cycles (reverse self.old.lines)
+            (release_line name wire.now.bits) ≡ true }
+        requires written { is_written (release_line name wire.now.bits) ≡ true }
+        requires fresh { list_any (is_release_of name) (reverse self.old.lines) ≡ false }
         ensures ok { OnOk result (Adds self.old self.new (release_line name wire.now.bits)) }
         ensures err { OnErr result (self.new ≡ self.old) }
     {
@@ -186,6 +212,7 @@ impl Stimulus {
 
     /// Adds the cycle, counted from 0, of the sets that follow.
     pub fn push_cycle(&mut self, _alloc: Global, cycle: u64) -> Result<(), NoMemory>
+        requires { may_follow self.old.cycles (reverse self.old.lines) (cycle_line cycle) ≡ true }
         ensures ok { OnOk result (Adds self.old self.new (cycle_line cycle)) }
         ensures err { OnErr result (self.new ≡ self.old) }
     {
@@ -201,6 +228,9 @@ impl Stimulus {
         value: Bits,
         taint: Bits,
     ) -> Result<(), NoMemory>
+        requires place { may_follow self.old.cycles (reverse self.old.lines)
+            (set_line port (tainted value taint)) ≡ true }
+        requires written { is_written (set_line port (tainted value taint)) ≡ true }
         ensures ok { OnOk result (Adds self.old self.new (set_line port (tainted value taint))) }
         ensures err { OnErr result (self.new ≡ self.old) }
     {

@@ -1,7 +1,9 @@
-// Lines, words and numbers at their edges, and the lines of a stimulus. The expected values were worked by hand.
+// Lines, words, numbers and names at their edges, and the lines of a stimulus. The expected values were worked by hand.
+
+ghost use Rattle.std.specs.Prelude.{◌≡◌, ◌<◌, length};
 
 use super::{StimLine, Stimulus};
-use crate::text::{Words, read_number, split_line, split_words};
+use crate::text::{decode, first_word, next_line, only_word, read_number, split_line};
 use cif_bits::Bits;
 use cif_defs::{Name, Src, Wire};
 use std::process::Abort;
@@ -40,50 +42,78 @@ fn lines(rt: HostRuntime) {
     assert!(rt; none.is_empty());
 }
 
-// How many words a line has, and the last of them.
-fn last_word(line: &[u8]) -> Option<(usize, &[u8])> {
-    match split_words(line) {
-        Words::Two(_, last) => Some((2, last)),
-        Words::Three(_, _, last) => Some((3, last)),
-        Words::Four(_, _, _, last) => Some((4, last)),
-        Words::Other => None,
-    }
+#[test]
+fn lines_passed_over(rt: HostRuntime) {
+    let Some(line) = next_line(b"\n  \n#x\n #y\nz", 7) else {
+        panic!(rt; "no line");
+    };
+    assert_eq!(rt; line.number, 10);
+    assert_eq!(rt; line.text, b" #y".as_slice());
+    assert_eq!(rt; line.rest, b"z".as_slice());
+    assert!(rt; next_line(b"#\n\n   ", 1).is_none());
+    assert!(rt; next_line(b"", 1).is_none());
 }
 
 #[test]
 fn words(rt: HostRuntime) {
     let cases = [
-        ("@ 12", Some((2, "12"))),
-        ("set d 01", Some((3, "01"))),
-        ("set d 01 10", Some((4, "10"))),
-        // Two spaces have an empty word between them.
-        ("set  d", Some((3, "d"))),
-        ("@ ", Some((2, ""))),
-        ("@", None),
+        ("@ 12", Some("@")),
+        ("  set  d", Some("set")),
+        ("set", Some("set")),
         ("", None),
-        ("set d 01 10 0", None),
+        ("   ", None),
     ];
-    for (line, want) in cases {
-        match (last_word(line.as_bytes()), want) {
+    for (text, wanted) in cases {
+        match (first_word(text.as_bytes()), wanted) {
             (None, None) => {}
-            (Some((count, last)), Some((wanted, text))) => {
-                assert_eq!(rt; count, wanted, "at {line}");
-                assert_eq!(rt; last, text.as_bytes(), "at {line}");
+            (Some(first), Some(word)) => {
+                assert_eq!(rt; first.word, word.as_bytes(), "at {text}");
             }
-            _ => panic!(rt; "at {line}"),
+            _ => panic!(rt; "at {text}"),
         }
     }
+    assert!(rt; only_word(b"  a  ").is_some());
+    assert!(rt; only_word(b"a b").is_none());
+    assert!(rt; only_word(b" ").is_none());
 }
 
+#[test]
+fn names(rt: HostRuntime) -> Result<(), Fail> {
+    let cases: [(&str, Option<&[u8]>); 9] = [
+        ("a", Some(b"a")),
+        ("%20", Some(b" ")),
+        ("a%25%ff%Fe~", Some(b"a%\xFF\xFE~")),
+        ("%00%7F", Some(b"\x00\x7F")),
+        ("%41", None),
+        ("%2", None),
+        ("%", None),
+        ("%2g", None),
+        ("a b", None),
+    ];
+    for (text, wanted) in cases {
+        match (decode(rt.alloc(), text.as_bytes())?, wanted) {
+            (None, None) => {}
+            (Some(name), Some(bytes)) => assert_eq!(rt; name.items(), bytes, "at {text}"),
+            _ => panic!(rt; "at {text}"),
+        }
+    }
+    Ok(())
+}
+
+// ---- builders
+
 // A name.
-fn name(rt: &(impl Abort + AllocGlobal), text: &[u8]) -> Name {
+fn name(rt: &(impl Abort + AllocGlobal), text: &[u8]) -> Name
+    ensures { result ≡ text.now }
+{
     Name::of(Vec::from_slice(rt.alloc(), text).expect(rt, "memory"))
 }
 
 // The word of two bits, of which the lower is 1.
-fn one(rt: &(impl Abort + AllocGlobal)) -> Bits {
+fn one(rt: &(impl Abort + AllocGlobal)) -> Bits
+    ensures { length result ≡ 2 }
+{
     let mut word = Bits::zeros(rt.alloc(), 2).expect(rt, "memory");
-    assert!(rt; word.width() == 2);
     word.set(0, true);
     word
 }
@@ -115,5 +145,6 @@ fn builders(rt: HostRuntime) -> Result<(), Fail> {
     assert_eq!(rt; wire.items(), [Src::Bit(1), Src::Zero].as_slice());
     assert_eq!(rt; *cycle, 2);
     assert_eq!(rt; value.bits(), [true, false].as_slice());
+    assert!(rt; stimulus.released(1));
     Ok(())
 }

@@ -1,10 +1,15 @@
-// Lines, words and numbers of a text.
-
-ghost use Rattle.std.specs.Prelude.{◌≡◌, ◌<◌, ◌≤◌, ◌∷◌, ◌==◌, ◌&&◌, ◌||◌, not, length, get_or, position, IsTrue};
-ghost use Rattle.cif_defs.specs.Text.{lines_of, words_of, number_read, is_visible, percent, is_decimal as is_decimal_text, is_decimal_digit, decimal_value as decimal_number};
-ghost use Rattle.cif_defs.specs.StimulusText.{is_plain_word as is_plain};
-ghost use Rattle.cif_stim.specs.LineWords.{words_after, AreWords, below_limit, number_with};
+// Lines, words, numbers and coded names of a text.
+ghost use Rattle.std.specs.Prelude.{◌≡◌, ◌<◌, ◌≤◌, ◌+◌, ◌^◌, ◌∷◌, [], ◌==◌, ◌&&◌, ◌||◌, not, nat_le, false, ℕ, length, get_or, position, Some, None, IsTrue, IsNone, IfOk, IfSome, IfNone};
 ghost use Rattle.std.specs.List.{list_all};
+ghost use Rattle.cif_defs.specs.RawModule.{is_binary as is_binary_text};
+ghost use Rattle.cif_defs.specs.Text.{lines_of, words_of, space, number_sign, percent, number_read, is_skipped as is_skipped_line, is_visible as is_visible_byte, is_decimal as is_decimal_text, is_decimal_digit, decimal_value as decimal_number, hex_value as hex_number, plain_byte as plain_byte_of, byte_of_digits, with_byte, decoded};
+ghost use Rattle.cif_stim.specs.Numbers.{below_limit, number_with};
+ghost use Rattle.cif_stim.specs.WordLists.{IsOnly};
+ghost use Rattle.cif_stim.specs.StimulusText.{numbered};
+
+use cif_bits::NoMemory;
+use cif_defs::Name;
+use std::alloc::Global;
 
 const LINE_END: u8 = 10;
 
@@ -12,13 +17,17 @@ const SPACE: u8 = 32;
 
 const PERCENT: u8 = 37;
 
-/// The words of a line that has two, three or four.
+// ---- lines
+
+/// A line that isn't passed over.
 #[derive(Clone, Copy)]
-pub enum Words<'a> {
-    Two(&'a [u8], &'a [u8]),
-    Three(&'a [u8], &'a [u8], &'a [u8]),
-    Four(&'a [u8], &'a [u8], &'a [u8], &'a [u8]),
-    Other,
+pub struct Line<'a> {
+    /// Its number.
+    pub number: u64,
+    /// Its bytes.
+    pub text: &'a [u8],
+    /// What stands after its end.
+    pub rest: &'a [u8],
 }
 
 /// The first place of a byte.
@@ -40,59 +49,254 @@ pub fn split_line(text: &[u8]) -> (&[u8], &[u8])
     }
 }
 
-/// The first word of a line, and what stands after the space that ends it.
-fn split_word(line: &[u8]) -> (&[u8], Option<&[u8]>)
-    ensures { words_of line.now ≡ result.0.now ∷ words_after result.1 }
+/// Whether each byte is a space.
+fn are_spaces(line: &[u8]) -> bool
+    ensures { result ≡ list_all (λ b. b == space) line.now }
 {
-    match first_place(line, SPACE) {
-        Some(end) => (&line[..end], Some(&line[end + 1..])),
-        None => (line, None),
+    line.iter().all(|byte| *byte == SPACE)
+}
+
+/// Whether a line has no words.
+pub fn is_blank(line: &[u8]) -> bool
+    ensures { result ≡ (length (words_of line.now) == 0) }
+{
+    are_spaces(line)
+}
+
+/// Whether a line is a remark.
+fn is_remark(line: &[u8]) -> bool
+    ensures { result ≡ (get_or line.now 0 space == number_sign) }
+{
+    !line.is_empty() && line[0] == b'#'
+}
+
+/// Whether a line is passed over, though counted.
+pub fn is_skipped(line: &[u8]) -> bool
+    ensures { result ≡ is_skipped_line line.now }
+{
+    is_blank(line) || is_remark(line)
+}
+
+/// The first line of a text that isn't passed over, where the lines of the text have numbers from `number` on.
+pub fn next_line(text: &[u8], number: u64) -> Option<Line<'_>>
+    requires { number + length text.now < 2 ^ 64 }
+    ensures some { IfSome result (λ l. numbered number (lines_of text.now)
+        ≡ record { number = l.number; words = words_of l.text.now }
+        ∷ numbered (l.number + 1) (lines_of l.rest.now)) }
+    ensures later { IfSome result (λ l. number ≤ l.number) }
+    ensures shorter { IfSome result
+        (λ l. l.number + 1 + length l.rest.now ≤ number + length text.now) }
+    ensures none { IsNone result → numbered number (lines_of text.now) ≡ [] }
+{
+    let mut rest = text;
+    let mut number = number;
+    while !rest.is_empty() {
+        let (line, after) = split_line(rest);
+        if !is_skipped(line) {
+            return Some(Line {
+                number,
+                text: line,
+                rest: after,
+            });
+        }
+        rest = after;
+        number += 1;
+    }
+    None
+}
+
+// ---- words
+
+/// The first word of a text, and what stands after it.
+#[derive(Clone, Copy)]
+pub struct FirstWord<'a> {
+    /// The word.
+    pub word: &'a [u8],
+    /// What stands after the space that ends it.
+    pub rest: &'a [u8],
+}
+
+/// The first place of a byte that isn't a space.
+fn first_other(text: &[u8]) -> Option<usize>
+    ensures { result ≡ position (λ b. not (b == space)) text.now }
+{
+    text.iter().position(|byte| *byte != SPACE)
+}
+
+/// A text without the spaces at its beginning.
+fn after_spaces(text: &[u8]) -> &[u8]
+    ensures words { words_of result.now ≡ words_of text.now }
+    ensures begins { 0 < length result.now → (get_or result.now 0 0 == space) ≡ false }
+{
+    match first_other(text) {
+        Some(begin) => &text[begin..],
+        None => &[],
     }
 }
 
-/// The words of a line in which one space separates each two.
-pub fn split_words(line: &[u8]) -> Words<'_>
-    ensures { AreWords result (words_of line.now) }
+/// The first word of a text.
+pub fn first_word(text: &[u8]) -> Option<FirstWord<'_>>
+    ensures some { IfSome result
+        (λ w. words_of text.now ≡ w.word.now ∷ words_of w.rest.now) }
+    ensures none { IsNone result → words_of text.now ≡ [] }
 {
-    let (first, rest) = split_word(line);
-    let Some(rest) = rest else {
-        return Words::Other;
-    };
-    let (second, rest) = split_word(rest);
-    let Some(rest) = rest else {
-        return Words::Two(first, second);
-    };
-    let (third, rest) = split_word(rest);
-    let Some(rest) = rest else {
-        return Words::Three(first, second, third);
-    };
-    let (fourth, rest) = split_word(rest);
-    match rest {
-        None => Words::Four(first, second, third, fourth),
-        Some(_) => Words::Other,
+    let text = after_spaces(text);
+    if text.is_empty() {
+        return None;
+    }
+    match first_place(text, SPACE) {
+        Some(end) => Some(FirstWord {
+            word: &text[..end],
+            rest: &text[end + 1..],
+        }),
+        None => Some(FirstWord {
+            word: text,
+            rest: &[],
+        }),
     }
 }
 
-/// Whether a byte may stand in a word and needs no coding.
-fn is_plain_byte(byte: u8) -> bool
-    ensures { result ≡ (is_visible byte && not (byte == percent)) }
+/// The only word of a text.
+pub fn only_word(text: &[u8]) -> Option<&[u8]>
+    ensures { IsOnly (words_of text.now) result }
 {
-    byte >= 33 && byte <= 126 && byte != PERCENT
+    let first = first_word(text)?;
+    if is_blank(first.rest) {
+        Some(first.word)
+    } else {
+        None
+    }
 }
 
-/// Whether each byte may stand in a word and needs no coding.
-fn are_plain(bytes: &[u8]) -> bool
-    ensures { result ≡ list_all (λ b. is_visible b && not (b == percent)) bytes.now }
+/// Whether a word may have a byte.
+fn is_visible(byte: u8) -> bool
+    ensures { result ≡ is_visible_byte byte }
 {
-    bytes.iter().all(|byte| is_plain_byte(*byte))
+    byte >= 33 && byte <= 126
 }
 
-/// Whether a word has bytes, and each is one that needs no coding.
-pub fn is_plain_word(word: &[u8]) -> bool
-    ensures { result ≡ is_plain word.now }
+/// Whether each byte is a space or one that a word may have.
+fn are_readable(line: &[u8]) -> bool
+    ensures { result ≡ list_all (λ b. b == space || is_visible_byte b) line.now }
 {
-    !word.is_empty() && are_plain(word)
+    line.iter().all(|byte| *byte == SPACE || is_visible(*byte))
 }
+
+/// Whether the words of a line have no other bytes than they may have.
+pub fn are_visible(line: &[u8]) -> bool
+    ensures { result ≡ list_all (list_all is_visible_byte) (words_of line.now) }
+{
+    are_readable(line)
+}
+
+/// Whether a word is one or more binary digits.
+pub fn is_binary(word: &[u8]) -> bool
+    ensures { result ≡ is_binary_text word.now }
+{
+    !word.is_empty() && are_binary(word)
+}
+
+/// Whether each byte is a binary digit.
+fn are_binary(word: &[u8]) -> bool
+    ensures { result ≡ list_all (λ b. not (not (b == 48 || b == 49))) word.now }
+{
+    word.iter().all(|byte| *byte == b'0' || *byte == b'1')
+}
+
+// ---- coded names
+
+/// A byte of a name, and what stands after its coding.
+#[derive(Clone, Copy)]
+struct FirstByte<'a> {
+    byte: u8,
+    rest: &'a [u8],
+}
+
+/// The value of a hexadecimal digit.
+fn hex_value(digit: u8) -> Option<u8>
+    ensures value { result ≡ hex_number digit }
+    ensures limit { IfSome result (λ d. d < 16) }
+{
+    match digit {
+        b'0'..=b'9' => Some(digit - b'0'),
+        b'A'..=b'F' => Some(digit - b'A' + 10),
+        b'a'..=b'f' => Some(digit - b'a' + 10),
+        _ => None,
+    }
+}
+
+/// A byte that stands for itself.
+fn plain_byte(byte: u8) -> Option<u8>
+    ensures { result ≡ plain_byte_of byte }
+{
+    if is_visible(byte) && byte != PERCENT {
+        Some(byte)
+    } else {
+        None
+    }
+}
+
+/// The byte that two hexadecimal digits code, which must be one that doesn't stand for itself.
+fn coded_byte(high: u8, low: u8) -> Option<u8>
+    ensures { result ≡ byte_of_digits high low }
+{
+    let high = hex_value(high)?;
+    let low = hex_value(low)?;
+    let byte = high * 16 + low;
+    if plain_byte(byte).is_none() {
+        Some(byte)
+    } else {
+        None
+    }
+}
+
+/// Whether a name begins with `%` and two more bytes.
+fn is_coded(text: &[u8]) -> bool
+    requires { 0 < length text.now }
+    ensures { result ≡ (get_or text.now 0 0 == percent && nat_le 3 (length text.now)) }
+{
+    text[0] == PERCENT && text.len() >= 3
+}
+
+/// The first byte of a coded name.
+fn first_byte(text: &[u8]) -> Option<FirstByte<'_>>
+    requires { 0 < length text.now }
+    ensures some { IfSome result (λ f. decoded text.now
+        ≡ with_byte (Some f.byte) (decoded f.rest.now)) }
+    ensures shorter { IfSome result (λ f. length f.rest.now < length text.now) }
+    ensures none { IsNone result → decoded text.now ≡ None }
+{
+    if is_coded(text) {
+        let byte = coded_byte(text[1], text[2])?;
+        return Some(FirstByte {
+            byte,
+            rest: &text[3..],
+        });
+    }
+    let byte = plain_byte(text[0])?;
+    Some(FirstByte {
+        byte,
+        rest: &text[1..],
+    })
+}
+
+/// The name that a word codes; None where the coding is wrong.
+pub fn decode(alloc: Global, word: &[u8]) -> Result<Option<Name>, NoMemory>
+    ensures { IfOk result (λ name. name ≡ decoded word.now) }
+{
+    let mut name = Vec::with_capacity(alloc, word.len())?;
+    let mut rest = word;
+    while !rest.is_empty() {
+        let Some(first) = first_byte(rest) else {
+            return Ok(None);
+        };
+        name.push(first.byte)?;
+        rest = first.rest;
+    }
+    Ok(Some(Name::of(name)))
+}
+
+// ---- numbers
 
 /// Whether a byte is a decimal digit.
 fn is_digit(byte: u8) -> bool

@@ -2,15 +2,16 @@
 ghost use Rattle.std.specs.Prelude.{◌≡◌, ◌<◌, ◌∷◌, [], nat_lt, bytes_eq, map};
 ghost use Rattle.cif_defs.specs.Words.{bit};
 ghost use Rattle.cif_defs.specs.Cells.{state_bits};
-ghost use Rattle.cif_defs.specs.Stimulus.{held_by, unset};
+ghost use Rattle.cif_defs.specs.Stimulus.{held_by, unset, is_bit};
+ghost use Rattle.std.specs.List.{list_any};
 ghost use Rattle.cif_stim.specs.StimulusView.{line_seen};
-ghost use Rattle.cif_stim.specs.Held.{word_set_at, Starts};
+ghost use Rattle.cif_stim.specs.Held.{word_set_at, Starts, releases_bit};
 
 use crate::line::{Held, Pair, StimLine};
 use cif_bits::Bits;
 use cif_cells::table::role;
 use cif_cells::{Cell, Param};
-use cif_defs::{Name, Role};
+use cif_defs::{Name, NetBit, Role, Src};
 
 /// A bit of a word and of its taint; a bit past the end is 0.
 fn pair_of(value: &Bits, taint: &Bits, index: u64) -> Pair
@@ -102,6 +103,41 @@ fn is_named(owner: &Cell, name: &Name) -> bool
     ensures { result ≡ bytes_eq name.now owner.now.name }
 {
     name.items() == owner.name().items()
+}
+
+/// Whether some line releases a net bit.
+pub fn are_released(lines: &[StimLine], bit: NetBit) -> bool
+    ensures { result ≡ list_any (λ l. releases_bit bit (line_seen l)) lines.now }
+{
+    lines.iter().any(|line| releases(line, bit))
+}
+
+/// Whether a line releases a net bit; constants of its wire are passed over.
+fn releases(line: &StimLine, bit: NetBit) -> bool
+    ensures { result ≡ releases_bit bit (line_seen line.now) }
+{
+    match line {
+        StimLine::Release { wire, .. } => has_bit(wire.items(), bit),
+        StimLine::Reg { .. } | StimLine::Mem { .. } | StimLine::Cycle(_) | StimLine::Set { .. } =>
+            false,
+    }
+}
+
+/// Whether a net bit is one of those that are read.
+fn has_bit(sources: &[Src], bit: NetBit) -> bool
+    ensures { result ≡ list_any (is_bit bit) sources.now }
+{
+    sources.iter().any(|source| is_source(*source, bit))
+}
+
+/// Whether what is read is a net bit.
+fn is_source(source: Src, bit: NetBit) -> bool
+    ensures { result ≡ is_bit bit source }
+{
+    match source {
+        Src::Bit(place) => bit == place,
+        Src::Zero | Src::One => false,
+    }
 }
 
 /// What a line makes of a bit with which a cell starts.

@@ -4,9 +4,9 @@ use Rattle.std.specs.Prelude.{ℕ, suc, ◌+◌, ◌-◌, ◌*◌, ◌/◌, ◌<
 use Rattle.std.specs.List.{list_any, range_with_len}
 use Rattle.std.proofs.Common.{arith, sym, ap, ◌∙◌}
 use Rattle.std.proofs.lemmas.Bool.Decides.{nat_tests}
-use Rattle.std.proofs.lemmas.Nat.{div-mul-add, mod-mul-add}
+use Rattle.std.proofs.lemmas.Nat.{div-mul-add, mod-mul-add, mul-add-lt}
 use Rattle.cif_defs.specs.Cells.{Cell, shape_of}
-use Rattle.cif_defs.specs.Memory.{MemoryShape, data_place, is_addressed, is_inside, is_on_or_tainted, read_taint, read_word, row_at, sets_flag, write_address, written_taint_bit}
+use Rattle.cif_defs.specs.Memory.{MemoryShape, data_place, is_addressed, is_inside, is_on_or_tainted, memory_bits, next_memory_taint, read_taint, read_word, row_at, sets_flag, write_address, written_taint_bit}
 use Rattle.cif_defs.specs.Words.{Word, bit, block, has_one, number, operand, word, zeros}
 use Rattle.cif_defs.proofs.Numbers.{word-same}
 use Rattle.cif_defs.proofs.WordLaws.{bit-word, length-word}
@@ -81,6 +81,15 @@ row_after_port m vs ts p port taint r is h = word-same m.width _ _ (λ i l.
     let data_taint : bit port.word_taint i ≡ bit (operand ts 3) (data_place m p k) = ap (λ (w : Word). bit w i) is.word_taint ∙ bit-word n _ i false l ∙ ap (bit (operand ts 3)) place in
     let before : bit (taint_row m vs ts p taint r) i ≡ written_taint_bit m vs ts p taint k = bit-word n _ i false l in
     cc)
+
+-- before the first port a row is that of the stored taint, and after the last that of the next stored taint
+pub first_row : (m : MemoryShape) (vs ts : List Word) (taint : Word) (r : ℕ) → taint_row m vs ts 0 taint r ≡ word m.width (λ i. bit taint (r * m.width + i))
+unfolding written_taint_bit
+first_row m vs ts taint r = refl
+
+pub last_row : (m : MemoryShape) (vs ts : List Word) (taint : Word) (r : ℕ) → r < m.size → taint_row m vs ts m.write_ports taint r ≡ word m.width (λ i. bit (next_memory_taint m vs ts taint) (r * m.width + i))
+last_row m vs ts taint r h = word-same m.width _ _ (λ i l.
+    sym (bit-word (memory_bits m) (λ k. written_taint_bit m vs ts m.write_ports taint k) (r * m.width + i) false (omega (arith, mul-add-lt r m.width i m.size h l))))
 
 -- ---- all else stays
 

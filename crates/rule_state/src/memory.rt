@@ -38,7 +38,7 @@ fn ones(alloc: Global, width: u32) -> Result<Bits, NoMemory>
 
 /// The taint of a read, from the taint of its address, the flag of the memory, and the stored taint of the addressed word,
 /// which is all zeros where the address lies outside: all ones where an address bit is tainted or the flag is set, else
-/// the stored taint.
+/// the stored taint. It has as many bits as the stored taint. The only error is want of memory.
 pub fn read_taint(
     alloc: Global,
     addr_taint: &Bits,

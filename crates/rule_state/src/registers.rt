@@ -187,7 +187,8 @@ fn shown_term(alloc: Global, cell: &Cell) -> Result<Term, NoMemory>
 ///
 /// The term is well formed for the operands of the cell and a stored word of WIDTH bits, 1 to 4,096. Its value is the
 /// exact taint, for all values, taints and polarities, and it costs at most 31 cells. The meanings of registers are those
-/// of the Yosys cell library for values without x.
+/// of the Yosys cell library for values without x, and a taint bit means what it does in GLIFT and CellIFT. The only error
+/// is want of memory.
 pub fn next_taint_term(alloc: Global, cell: &Cell) -> Result<Term, NoMemory>
     requires role { is_register (role_of cell.now.kind) ≡ true }
     requires fitted { IsFitted cell.now }
@@ -199,7 +200,8 @@ pub fn next_taint_term(alloc: Global, cell: &Cell) -> Result<Term, NoMemory>
 /// The taint of what a register with asynchronous reset shows: operand 0 is its reset, and operand 1 the stored word.
 ///
 /// The term is well formed for one bit and a stored word of WIDTH bits, 1 to 4,096. Its value is the exact taint, and it
-/// costs at most 15 cells.
+/// costs at most 15 cells. That the reset value shows in the cycle of the reset is this project's own meaning. The only
+/// error is want of memory.
 pub fn show_taint_term(alloc: Global, cell: &Cell) -> Result<Term, NoMemory>
     requires role { role_of cell.now.kind ≡ ResetRegister }
     requires fitted { IsFitted cell.now }

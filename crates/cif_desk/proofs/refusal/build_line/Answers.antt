@@ -31,7 +31,7 @@ pub returns-in-InoutPort : goal.returns-in-InoutPort
 returns-in-InoutPort c = told _ _ _ (ap build_refusal c.in-InoutPort.is) c.named-in-InoutPort.ensures
 
 pub returns-in-InitConflict : goal.returns-in-InitConflict
-returns-in-InitConflict c = told _ _ _ (ap build_refusal c.in-InitConflict.is) c.refusal_line.ensures
+returns-in-InitConflict c = told _ _ _ (ap build_refusal c.in-InitConflict.is) c.at_number.ensures
 
 pub returns-in-MemoryForm : goal.returns-in-MemoryForm
 returns-in-MemoryForm c = told _ _ _ (ap build_refusal c.in-MemoryForm.is) c.named-in-MemoryForm.ensures

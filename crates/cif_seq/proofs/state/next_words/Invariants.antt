@@ -1,7 +1,12 @@
+use Rattle.std.proofs.Common.{◌≡◌}
 use Rattle.cif_defs.specs.Words.{bit}
 use Rattle.cif_defs.specs.Accepted.{netlist_of}
-use Rattle.cif_seq.specs.States.{NextUpTo}
+use Rattle.cif_seq.specs.States.{next_values, next_stored_taints, next_flags}
 use Rattle.cif_seq.proofs.state.next_words.Given as goal
 
 abbrev pub invariant-loop-number : goal.invariant-loop-number
-invariant-loop-number l = NextUpTo (netlist_of l.netlist) (bit l.values) (bit l.taints) l.number l.next_values.items l.next_taints.items
+invariant-loop-number l = record {
+  values : l.next_values.items ≡ next_values (netlist_of l.netlist) l.prior.values.items (bit l.values) l.number;
+  taints : l.next_taints.items ≡ next_stored_taints (netlist_of l.netlist) l.prior.values.items l.prior.taints.items (bit l.values) (bit l.taints) l.number;
+  flags : l.next_flags.items ≡ next_flags (netlist_of l.netlist) l.prior.flags.items (bit l.values) (bit l.taints) l.number;
+}

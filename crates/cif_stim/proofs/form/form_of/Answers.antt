@@ -1,9 +1,12 @@
-use Rattle.std.proofs.Common.{sym, ◌∙◌}
-use Rattle.cif_stim.proofs.Forms.{coded_taint, other_words}
+use Rattle.std.proofs.Common.{sym, ◌∙◌, refl}
+use Rattle.cif_stim.proofs.Forms.{not_visible, no_verb, by_verb}
 use Rattle.cif_stim.proofs.form.form_of.Goals as goal
 
-pub returns-else-is_plain_word : goal.returns-else-is_plain_word
-returns-else-is_plain_word c = coded_taint _ _ _ _ _ c.in-Four.ensures (sym c.is_plain_word.ensures ∙ c.if-is_plain_word.false)
+pub returns-then-not-are_visible : goal.returns-then-not-are_visible
+returns-then-not-are_visible c = λ raw. not_visible raw c.args.version _ (sym c.are_visible.ensures ∙ c.if-not-are_visible.true)
 
-pub returns-in-Other : goal.returns-in-Other
-returns-in-Other c = other_words _ c.in-Other.ensures
+pub returns-in_default : goal.returns-in_default
+returns-in_default c = λ raw. no_verb raw c.args.version _ (c.in_default.ensures.none refl)
+
+pub returns : goal.returns
+returns c = λ raw. c.in_ok-said.ensures raw ∙ by_verb raw c.args.version _ _ _ c.in-Some.ensures.some (sym c.are_visible.ensures ∙ c.if-not-are_visible.false)

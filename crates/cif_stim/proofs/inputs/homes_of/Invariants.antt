@@ -1,6 +1,6 @@
 use Rattle.std.proofs.Common.{◌≡◌, ◌<◌, ℕ, length, get_or, Some}
 use Rattle.cif_defs.specs.Netlist.{no_wire}
-use Rattle.cif_stim.specs.Ports.{place_named}
+use Rattle.cif_stim.specs.Names.{place_named}
 use Rattle.cif_stim.proofs.inputs.homes_of.Given as goal
 
 abbrev pub invariant-loop-port : goal.invariant-loop-port

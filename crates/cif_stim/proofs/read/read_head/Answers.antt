@@ -1,18 +1,27 @@
-use Rattle.std.proofs.Common.{sym, ◌∙◌}
-use Rattle.cif_stim.proofs.Heads.{empty_text, other_version, one_line, bad_cycles, good_cycles}
+use Rattle.std.proofs.Common.{refl}
+use Rattle.std.proofs.lemmas.Result.{err_from_is_err_and}
+use Rattle.cif_stim.proofs.Pieces.{empty, not_empty}
+use Rattle.cif_stim.proofs.Heads.{empty_text, all_skipped, wrong_version, no_second, wrong_cycles, both_lines}
 use Rattle.cif_stim.proofs.read.read_head.Goals as goal
 
-pub returns-then-is_empty-clause-none : goal.returns-then-is_empty-clause-none
-returns-then-is_empty-clause-none c = λ _. empty_text c.args.bytes.now c.if-is_empty.ensures
+pub returns-then-is_empty-clause-err : goal.returns-then-is_empty-clause-err
+returns-then-is_empty-clause-err c = λ raw. empty_text raw c.args.bytes.now (empty c.args.bytes.now c.if-is_empty.ensures)
 
-pub returns-then-not-is_version-clause-none : goal.returns-then-not-is_version-clause-none
-returns-then-not-is_version-clause-none c = λ _. other_version c.args.bytes.now _ _ c.split_line.ensures.lines (sym c.is_version.ensures ∙ c.if-not-is_version.true)
+pub returns-in_default-clause-err : goal.returns-in_default-clause-err
+returns-in_default-clause-err c = λ raw. all_skipped raw c.args.bytes.now (not_empty c.args.bytes.now c.if-is_empty.ensures) (c.in_default.ensures.none refl)
 
-pub returns-then-is_empty-2-clause-none : goal.returns-then-is_empty-2-clause-none
-returns-then-is_empty-2-clause-none c = λ _. one_line c.args.bytes.now _ _ c.split_line.ensures.lines c.if-is_empty-2.ensures
+pub returns-in_err-version-clause-err : goal.returns-in_err-version-clause-err
+returns-in_err-version-clause-err c =
+    let p = err_from_is_err_and c.from_residual.result c.from_residual.ensures.1 in
+    rw (p.1, p.2) (λ raw. wrong_version raw c.args.bytes.now _ _ _ (not_empty c.args.bytes.now c.if-is_empty.ensures) c.in-Some.ensures.some c.in_err-version.ensures.err)
 
-pub returns-in_err-cycles-clause-none : goal.returns-in_err-cycles-clause-none
-returns-in_err-cycles-clause-none c = λ _. bad_cycles c.args.bytes.now _ _ _ _ c.split_line.ensures.lines c.split_line-2.ensures.lines (sym c.is_version.ensures ∙ c.if-not-is_version.false) (sym c.read_cycles.ensures ∙ c.in_err-cycles.was)
+pub returns-in_default-next_line-clause-err : goal.returns-in_default-next_line-clause-err
+returns-in_default-next_line-clause-err c = λ raw. no_second raw c.args.bytes.now _ _ _ (not_empty c.args.bytes.now c.if-is_empty.ensures) c.in-Some.ensures.some c.in_ok-version.ensures.ok (c.in_default-next_line.ensures.none refl)
 
-pub returns-clause-some : goal.returns-clause-some
-returns-clause-some c = good_cycles c.args.bytes.now _ _ _ _ _ c.split_line.ensures.lines c.split_line-2.ensures.lines (sym c.is_version.ensures ∙ c.if-not-is_version.false) (sym c.read_cycles.ensures ∙ c.in_ok-cycles.was)
+pub returns-in_err-cycles-clause-err : goal.returns-in_err-cycles-clause-err
+returns-in_err-cycles-clause-err c =
+    let p = err_from_is_err_and c.from_residual-in_err-cycles.result c.from_residual-in_err-cycles.ensures.1 in
+    rw (p.1, p.2) (λ raw. wrong_cycles raw c.args.bytes.now _ _ _ _ _ _ (not_empty c.args.bytes.now c.if-is_empty.ensures) c.in-Some.ensures.some c.in_ok-version.ensures.ok c.in-Some-next_line.ensures.some c.in_err-cycles.ensures.err)
+
+pub returns-clause-ok : goal.returns-clause-ok
+returns-clause-ok c = λ raw. both_lines raw c.args.bytes.now _ _ _ _ _ _ (not_empty c.args.bytes.now c.if-is_empty.ensures) c.in-Some.ensures.some c.in_ok-version.ensures.ok c.in-Some-next_line.ensures.some c.in_ok-cycles.ensures.ok

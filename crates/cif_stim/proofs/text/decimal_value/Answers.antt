@@ -1,5 +1,5 @@
 use Rattle.std.proofs.Common.{sym, ap, ◌∙◌, ◌+◌, drop, fold, get_or}
-use Rattle.cif_stim.specs.LineWords.{number_with}
+use Rattle.cif_stim.specs.Numbers.{number_with}
 use Rattle.cif_stim.proofs.Digits.{too_large_on, digits_read, fits_next, digit_turn}
 use Rattle.cif_stim.proofs.text.decimal_value.Goals as goal
 

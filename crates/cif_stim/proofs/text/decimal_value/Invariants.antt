@@ -1,6 +1,6 @@
 use Rattle.std.proofs.Common.{◌≡◌, ◌<◌, ◌^◌, fold, drop}
 use Rattle.cif_defs.specs.Text.{decimal_value as decimal_number}
-use Rattle.cif_stim.specs.LineWords.{number_with}
+use Rattle.cif_stim.specs.Numbers.{number_with}
 use Rattle.cif_stim.proofs.text.decimal_value.Given as goal
 
 abbrev pub invariant-loop-digit : goal.invariant-loop-digit

@@ -1,17 +1,18 @@
--- No flag is set, so the taint is the stored one.
-use Rattle.std.proofs.Common.{List, ap, subst, ◌≡◌, ◌∙◌}
+-- An untainted bit is the same under each stimulus that agrees.
+use Rattle.std.proofs.Common.{◌∙◌, ◌≡◌, List, ap, subst}
 use Rattle.cif_defs.specs.Words.{Word, bit, operand}
-use Rattle.cif_defs.specs.TaintRun.{taint_state}
-use Rattle.cif_defs.specs.declared.raw_module.Raw.{Raw}
-use Rattle.cif_cells.specs.Checks.{IsAccepted}
+use Rattle.cif_defs.specs.TaintRun.{state_value}
+use Rattle.cif_defs.specs.Loop.{IsLevelled}
+use Rattle.cif_defs.specs.Netlist.{IsWired}
 use Rattle.cif_seq.specs.Cases.{CaseOf, FrameOf, net_of}
-use Rattle.cif_seq.proofs.Flags.{stored_alone}
+use Rattle.cif_seq.proofs.FrameLaws.{state_independent}
 use Rattle.cif_seq.proofs.frame.Frame.state.Goals as goal
 
-pub returns-clause-taint : goal.returns-clause-taint
-returns-clause-taint c =
-    let same : c.netlist.result.now ≡ c.args.self.now.case.raw = c.netlist.ensures ∙ ap (λ (x : CaseOf). x.raw) c.deref.ensures ∙ ap (λ (f : FrameOf). f.case.raw) c.self.view_is in
-    let accepted : IsAccepted c.args.self.now.case.raw = subst (λ (x : Raw). IsAccepted x) same c.raw-accepted.ensures.accepted in
-    stored_alone c.args.self.now.case.raw c.args.self.now.case.stimulus c.args.self.now.cycle c.args.cell c.args.index c.self.inside.stored_taints.items c.long_bit-2.result accepted
-    (c.self.invariant.shown.state_taints ∙ ap (λ (f : FrameOf). (taint_state (net_of f.case) f.case.stimulus f.cycle).stored) c.self.view_is)
-    (c.long_bit-2.ensures ∙ ap (λ (w : Word). bit w c.args.index) (c.operand_of-2.ensures ∙ ap (λ (ws : List Word). operand ws c.args.cell) c.deref-3.ensures.value))
+pub returns-clause-independent : goal.returns-clause-independent
+returns-clause-independent c = λ other agrees clear.
+    let same : c.deref.result.now ≡ c.args.self.now.case = c.deref.ensures ∙ ap (λ (f : FrameOf). f.case) c.self.view_is in
+    state_independent (net_of c.args.self.now.case) c.args.self.now.case.order c.args.self.now.case.stimulus other c.args.self.now.cycle c.args.cell c.args.index c.state_bit.result _
+    (subst (λ (x : CaseOf). IsWired (net_of x)) same c.levels-levels.ensures.wired) (subst (λ (x : CaseOf). IsLevelled (net_of x) x.order) same c.levels-levels.ensures.levelled)
+    (c.state_bit.ensures ∙ ap (λ (ws : List Word). bit (operand ws c.args.cell) c.args.index) (c.deref-2.ensures.value ∙ c.self.invariant.shown.state_values)
+    ∙ ap (λ (f : FrameOf). state_value (net_of f.case) f.case.stimulus f.cycle c.args.cell c.args.index) c.self.view_is)
+    (cc (c.stored.ensures, c.flag.ensures)) agrees clear

@@ -14,7 +14,7 @@ returns-clause-value c =
     let home = home_lent _ _ c.args.names.now c.args.self.now c.args.port _ c.requires.at c.requires.port c.index-home.ensures in
     c.set_pair.ensures.value
     ∙ ap (λ (w : TaintedWord). bit w.value c.args.index)
-    (held_is _ _ c.args.names.now c.args.self.now _ c.args.port _ c.requires.at c.lines.ensures c.requires.port
+    (held_is _ _ c.args.names.now c.args.self.now _ c.args.port _ c.requires.at c.lines.ensures.value c.requires.port
     (c.index.ensures ∙ ap (λ h. get_or c.args.self.now.setters.items h c.index.result.now) home.0))
 
 pub returns-clause-taint : goal.returns-clause-taint
@@ -22,5 +22,5 @@ returns-clause-taint c =
     let home = home_lent _ _ c.args.names.now c.args.self.now c.args.port _ c.requires.at c.requires.port c.index-home.ensures in
     c.set_pair.ensures.taint
     ∙ ap (λ (w : TaintedWord). bit w.taint c.args.index)
-    (held_is _ _ c.args.names.now c.args.self.now _ c.args.port _ c.requires.at c.lines.ensures c.requires.port
+    (held_is _ _ c.args.names.now c.args.self.now _ c.args.port _ c.requires.at c.lines.ensures.value c.requires.port
     (c.index.ensures ∙ ap (λ h. get_or c.args.self.now.setters.items h c.index.result.now) home.0))

@@ -14,11 +14,11 @@ pub returns-clause-at : goal.returns-clause-at
 returns-clause-at c =
     let as_many = c.pass-passed.auto.setters ∙ ap (λ (ss : List (Option ℕ)). length ss) (c.deref_mut.ensures.value ∙ c.in_ok-setters.ensures) ∙ length-replicate (length c.inputs.result.now) _ ∙ ap (λ (ws : List Wire). length ws) c.inputs.ensures in
     let so_far = so_far_moved (netlist_of c.args.netlist.now) c.args.stimulus.now c.args.names.now c.lines.result.now c.deref.result.now 0 0 0 c.pass-passed.result _ c.deref_mut.result.now c.pass-passed.new.setters
-    c.requires c.lines.ensures c.deref.ensures.value (c.deref_mut.ensures.value ∙ c.in_ok-setters.ensures) (omega arith) (so_far_none (netlist_of c.args.netlist.now) c.args.stimulus.now (length c.inputs.result.now)) c.pass-passed.ensures.passes in
+    c.requires c.lines.ensures.value c.deref.ensures.value (c.deref_mut.ensures.value ∙ c.in_ok-setters.ensures) (omega arith) (so_far_none (netlist_of c.args.netlist.now) c.args.stimulus.now (length c.inputs.result.now)) c.pass-passed.ensures.passes in
     is_at (netlist_of c.args.netlist.now) c.args.stimulus.now c.args.names.now _ c.pass-passed.new.setters
     (with_items_is c.in_ok-setters.setters c.pass-passed.new.setters (c.pass-passed.auto.setters ∙ c.deref_mut.ensures.len))
     c.requires
     as_many
-    (lines_as_many _ c.args.stimulus.now _ c.lines.ensures c.pass-passed.ensures.inside)
+    (lines_as_many _ c.args.stimulus.now _ c.lines.ensures.value c.pass-passed.ensures.inside)
     so_far
-    (stops_seen c.args.stimulus.now _ _ _ c.lines.ensures c.pass-passed.ensures.stops)
+    (stops_seen c.args.stimulus.now _ _ _ c.lines.ensures.value c.pass-passed.ensures.stops)

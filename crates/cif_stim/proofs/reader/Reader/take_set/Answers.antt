@@ -1,44 +1,65 @@
-use Rattle.std.proofs.Common.{sym, ap, ◌∙◌, refl}
-use Rattle.std.proofs.lemmas.Result.{err_from_is_err_and}
-use Rattle.cif_defs.specs.StimulusText.{is_bit_word}
-use Rattle.cif_stim.specs.Reading.{taint_fits, taint_word}
-use Rattle.cif_stim.proofs.Sets.{set_none, set_closed, set_bad_value, set_bad_taint, set_some, may_is, mark_is, place_inside, added_set, marks_added, refuses_by}
+use Rattle.std.proofs.Common.{sym, ap, subst, ◌∙◌, refl, reverse, bytes_eq, is_some, ◌||◌, List, length}
+use Rattle.cif_defs.specs.declared.nets.Src.{Src}
+use Rattle.cif_defs.specs.Accepted.{netlist_of}
+use Rattle.cif_defs.specs.Stimulus.{TaintedWord, set_line}
+use Rattle.cif_stim.specs.Fitting.{settable, is_held_by}
+use Rattle.cif_stim.specs.Forms.{word_seen}
+use Rattle.cif_stim.specs.Given.{has}
+use Rattle.cif_stim.specs.StimulusView.{Adds}
+use Rattle.cif_stim.proofs.Narrow.{port_small, port_name_is}
+use Rattle.cif_stim.proofs.Steps.{given_again, good, read_set, may_set, fits_width, value_fits, taint_fits, is_given}
 use Rattle.cif_stim.proofs.reader.Reader.take_set.Goals as goal
 
-pub returns-in_default-clause-err : goal.returns-in_default-clause-err
-returns-in_default-clause-err c = set_none _ _ _ _ _ (c.in_default.ensures.none refl)
+pub returns-then-not-branch-clause-err : goal.returns-then-not-branch-clause-err
+returns-then-not-branch-clause-err c =
+    let raw = c.args.netlist.now in
+    let word = word_seen c.args.word.now in
+    let found = c.in-Some.ensures.is ∙ ap (settable (netlist_of raw)) c.items.ensures in
+    let key = c.items-3.ensures ∙ c.name.ensures ∙ port_name_is raw c.args.port c.in-Some.wire.now found in
+    given_again raw c.args.self.now.stimulus.cycles (reverse c.args.self.now.stimulus.lines) c.args.number (set_line c.args.port word)
+    (may_set c.args.self.now c.is_none.result _ c.requires.state c.is_none.ensures c.if-is_none.false)
+    (sym (ap is_some found)) refl
+    (sym (ap (is_held_by word) found) ∙ fits_width word _ _ _ _ c.has_width.ensures (ap (λ (us : List Src). length us) c.items-2.ensures) c.if-not-has_width.false)
+    (c.requires.state.given_ports c.args.port ∙ ap (has c.args.self.now.ports) (sym key) ∙ is_given _ _ _ c.in_ok-add.ensures.is_new c.if-not-branch.true)
 
-pub returns-then-not-may_set-clause-err : goal.returns-then-not-may_set-clause-err
-returns-then-not-may_set-clause-err c =
-    let inside = place_inside _ _ _ _ _ c.requires.state c.in-Some.ensures.inside in
-    set_closed _ _ _ _ _ _ c.in-Some.ensures.wire
-    (sym (may_is _ _ _ _ _ _ _ c.requires.state c.in-Some.ensures.place (mark_is _ _ _ inside c.index.ensures)) ∙ sym c.may_set.ensures ∙ c.if-not-may_set.true)
+pub read-requires-clause-value : goal.read-requires-clause-value
+read-requires-clause-value c =
+    let raw = c.args.netlist.now in
+    let word = word_seen c.args.word.now in
+    let found = c.in-Some.ensures.is ∙ ap (settable (netlist_of raw)) c.items.ensures in
+    value_fits word _ (fits_width word _ _ _ _ c.has_width.ensures (ap (λ (us : List Src). length us) c.items-2.ensures) c.if-not-has_width.false) (port_small raw c.args.port c.in-Some.wire.now c.in-Some.ensures.accepted found)
 
-pub returns-in_err-value-clause-err : goal.returns-in_err-value-clause-err
-returns-in_err-value-clause-err c =
-    let p = err_from_is_err_and c.from_residual.result c.from_residual.ensures.1 in
-    rw (p.1, p.2) (refuses_by _ _ _ (λ off. set_bad_value _ _ _ _ _ _ c.in-Some.ensures.wire (ap (λ k. is_bit_word k c.args.value.now) (sym c.width_at-width.ensures.value) ∙ off)) c.in_err-value.ensures.err)
-
-pub returns-in_err-taint-clause-err : goal.returns-in_err-taint-clause-err
-returns-in_err-taint-clause-err c =
-    let p = err_from_is_err_and c.from_residual-in_err-taint.result c.from_residual-in_err-taint.ensures.1 in
-    rw (p.1, p.2) (refuses_by _ _ _ (λ off. set_bad_taint _ _ _ _ _ _ c.in-Some.ensures.wire
-    (ap (λ k. is_bit_word k c.args.value.now) (sym c.width_at-width.ensures.value) ∙ c.in_ok-value.ensures.ok.0)
-    (ap (λ k. taint_fits k c.args.taint) (sym c.width_at-width.ensures.value) ∙ off)) c.in_err-taint.ensures.err)
+pub read-requires-clause-taint : goal.read-requires-clause-taint
+read-requires-clause-taint c =
+    let raw = c.args.netlist.now in
+    let word = word_seen c.args.word.now in
+    let found = c.in-Some.ensures.is ∙ ap (settable (netlist_of raw)) c.items.ensures in
+    taint_fits word _ (fits_width word _ _ _ _ c.has_width.ensures (ap (λ (us : List Src). length us) c.items-2.ensures) c.if-not-has_width.false) (port_small raw c.args.port c.in-Some.wire.now c.in-Some.ensures.accepted found)
 
 pub returns-clause-state : goal.returns-clause-state
 returns-clause-state c =
-    let on = sym c.may_set.ensures ∙ c.if-not-may_set.false in
-    marks_added _ _ _ _ _ _ _ _ _ c.requires.state c.in-Some.ensures.place on
-    (added_set _ _ _ _ _ _ _ _ c.in_ok-push_set.ensures.ok (c.of-name.ensures ∙ c.in_ok-from_slice.ensures.items) c.in_ok-value.ensures.ok.1 c.in_ok-taint.ensures.ok.1)
+    let raw = c.args.netlist.now in
+    let word = word_seen c.args.word.now in
+    let found = c.in-Some.ensures.is ∙ ap (settable (netlist_of raw)) c.items.ensures in
+    let key = c.items-3.ensures ∙ c.name.ensures ∙ port_name_is raw c.args.port c.in-Some.wire.now found in
+    let P : TaintedWord → Type 0 = λ w. Adds c.args.self.now.stimulus c.push_set.new.self (set_line c.args.port w) in
+    let added = subst P c.in_ok-bits.ensures c.in_ok-push_set.ensures.ok in
+    read_set c.args.self.now (record { stimulus = c.push_set.new.self; opened = c.args.self.now.opened; registers = c.args.self.now.registers; rows = c.args.self.now.rows; released = c.args.self.now.released; ports = c.add.new.self }) c.args.port word c.requires.state added refl refl refl refl (λ other. c.in_ok-add.ensures.added other ∙ ap (λ name. bytes_eq name other || has c.args.self.now.ports other) key)
 
 pub returns-clause-ok : goal.returns-clause-ok
-returns-clause-ok c = record {
-  line = _;
-  read = set_some _ _ _ _ _ _ c.in-Some.ensures.wire
-      (sym (may_is _ _ _ _ _ _ _ c.requires.state c.in-Some.ensures.place (mark_is _ _ _ (place_inside _ _ _ _ _ c.requires.state c.in-Some.ensures.inside) c.index.ensures)) ∙ sym c.may_set.ensures ∙ c.if-not-may_set.false)
-      (ap (λ k. is_bit_word k c.args.value.now) (sym c.width_at-width.ensures.value) ∙ c.in_ok-value.ensures.ok.0)
-      (ap (λ k. taint_fits k c.args.taint) (sym c.width_at-width.ensures.value) ∙ c.in_ok-taint.ensures.ok.0);
-  added = added_set _ _ _ _ _ _ _ _ c.in_ok-push_set.ensures.ok (c.of-name.ensures ∙ c.in_ok-from_slice.ensures.items) c.in_ok-value.ensures.ok.1
-      (c.in_ok-taint.ensures.ok.1 ∙ ap (λ k. taint_word k c.args.taint) c.width_at-width.ensures.value);
-}
+returns-clause-ok c =
+    let raw = c.args.netlist.now in
+    let word = word_seen c.args.word.now in
+    let found = c.in-Some.ensures.is ∙ ap (settable (netlist_of raw)) c.items.ensures in
+    let key = c.items-3.ensures ∙ c.name.ensures ∙ port_name_is raw c.args.port c.in-Some.wire.now found in
+    let P : TaintedWord → Type 0 = λ w. Adds c.args.self.now.stimulus c.push_set.new.self (set_line c.args.port w) in
+    let added = subst P c.in_ok-bits.ensures c.in_ok-push_set.ensures.ok in
+    record {
+      line = set_line c.args.port word;
+      read = good raw c.args.self.now.stimulus.cycles (reverse c.args.self.now.stimulus.lines) c.args.number (set_line c.args.port word)
+          (may_set c.args.self.now c.is_none.result _ c.requires.state c.is_none.ensures c.if-is_none.false)
+          (sym (ap is_some found)) refl
+          (sym (ap (is_held_by word) found) ∙ fits_width word _ _ _ _ c.has_width.ensures (ap (λ (us : List Src). length us) c.items-2.ensures) c.if-not-has_width.false)
+          (c.requires.state.given_ports c.args.port ∙ ap (has c.args.self.now.ports) (sym key) ∙ is_given _ _ _ c.in_ok-add.ensures.is_new c.if-not-branch.false);
+      added = added;
+    }

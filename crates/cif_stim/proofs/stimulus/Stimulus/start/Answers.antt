@@ -26,7 +26,7 @@ returns-clause-value c =
     let got = starts_in n c.args.self.now c.args.cell c.args.index c.self.inside.starts c.index-cells-cell.result c.stores.result c.deref.result.now _ _
     (owner_is n _ _ _ c.requires c.cells.ensures.are c.index-cells-cell.is) c.stores.ensures c.if-not-stores.false
     (ap (λ (s : Stimulus). s.lines) (sym c.self.view_is) ∙ ap (map line_seen) (sym c.deref.ensures.value))
-    (ap (λ (ls : List StimLine). list_any is_start (drop c.self.inside.starts ls)) c.deref.ensures.value ∙ c.self.invariant.later)
+    (ap (λ (ls : List StimLine). list_any is_start (drop c.self.inside.starts ls)) c.deref.ensures.value ∙ c.self.invariant.starts.later)
     (sym c.initial.ensures) refl c.started_pair.ensures in
     sym got.value
 
@@ -36,6 +36,6 @@ returns-clause-taint c =
     let got = starts_in n c.args.self.now c.args.cell c.args.index c.self.inside.starts c.index-cells-cell.result c.stores.result c.deref.result.now _ _
     (owner_is n _ _ _ c.requires c.cells.ensures.are c.index-cells-cell.is) c.stores.ensures c.if-not-stores.false
     (ap (λ (s : Stimulus). s.lines) (sym c.self.view_is) ∙ ap (map line_seen) (sym c.deref.ensures.value))
-    (ap (λ (ls : List StimLine). list_any is_start (drop c.self.inside.starts ls)) c.deref.ensures.value ∙ c.self.invariant.later)
+    (ap (λ (ls : List StimLine). list_any is_start (drop c.self.inside.starts ls)) c.deref.ensures.value ∙ c.self.invariant.starts.later)
     (sym c.initial.ensures) refl c.started_pair.ensures in
     sym got.taint

@@ -1,0 +1,83 @@
+-- What a cell is evaluated to, from what the calls of an evaluation say.
+use Rattle.std.specs.Prelude.{ℕ, ◌+◌, ◌*◌, ◌<◌, ◌≤◌, ◌≡◌, Bool, false, List, [], length, map, get_or, refl}
+use Rattle.std.proofs.Common.{arith, ap, sym, ◌∙◌, subst}
+use Rattle.cif_defs.specs.Words.{Word, bit, operand}
+use Rattle.cif_defs.specs.Cells.{Cell, meaning, number_of, reset_operand, shown_word, width}
+use Rattle.cif_defs.specs.Fitted.{IsFitted}
+use Rattle.cif_defs.specs.Kinds.{role_of}
+use Rattle.cif_defs.specs.Taint.{output_taint, shown_taint}
+use Rattle.cif_defs.specs.Netlist.{IsWired, Netlist, cell_at, role_at}
+use Rattle.cif_defs.specs.Run.{operand_words}
+use Rattle.cif_defs.specs.TaintRun.{TaintState, operand_taints}
+use Rattle.cif_defs.specs.declared.kinds.Param.TheVariants.{RdPorts}
+use Rattle.cif_defs.specs.declared.kinds.Role.TheVariants.{Combinational, MemoryBlock, ResetRegister}
+use Rattle.cif_cells.specs.StateCells.{HasMemoryNumbers}
+use Rattle.cif_term.specs.CellTaints.{output_width}
+use Rattle.cif_seq.specs.CellWords.{read_taints, read_words}
+use Rattle.cif_seq.specs.Settled.{EvaluatesTaints, EvaluatesValues, Marks}
+use Rattle.cif_seq.specs.Writes.{put_word, put_words}
+use Rattle.cif_seq.proofs.Evaluated.{memory_taints, memory_values, outputs_taints, outputs_values, register_taints, register_values}
+use Rattle.cif_seq.proofs.ReadLaws.{ports_of_memory}
+use Rattle.cif_seq.proofs.ShownLaws.{ports_of_register}
+
+pub outputs_values_found : (n : Netlist) (c : ℕ) (x : Cell) (stored given vs ws written : List Word) (outs : _) (old new : List Bool) → IsWired n → role_at n c ≡ Combinational → length old ≡ length n.drivers → x ≡ cell_at n c
+    → outs ≡ x.outputs → given ≡ vs → vs ≡ operand_words (bit old) x → ws ≡ meaning x given → written ≡ ws → new ≡ put_words [] outs written old → EvaluatesValues n stored c old new
+outputs_values_found n c x stored given vs ws written outs old new w role size hx ho hg hv hw hs k =
+    outputs_values n c stored written old new w role size (hs ∙ hw ∙ ap (λ (us : List Word). meaning x us) (hg ∙ hv) ∙ ap (λ (z : Cell). meaning z (operand_words (bit old) z)) hx)
+    (k ∙ ap (λ (ts : _). put_words [] ts written old) (ho ∙ ap (λ (z : Cell). z.outputs) hx))
+
+pub outputs_taints_found : (n : Netlist) (c : ℕ) (x : Cell) (stored : List Word) (t : TaintState) (released : ℕ → Bool) (marks : List Bool) (given_vs given_ts vs ts ws written : List Word) (outs : _) (values old new : List Bool) → IsWired n → role_at n c ≡ Combinational
+    → length old ≡ length n.drivers → Marks n marks released → x ≡ cell_at n c → IsFitted x → outs ≡ x.outputs → given_vs ≡ vs → given_ts ≡ ts → vs ≡ operand_words (bit values) x → ts ≡ operand_taints (bit old) x
+    → ((p i : ℕ) → i < output_width x p → bit (operand ws p) i ≡ output_taint x p i given_vs given_ts) → written ≡ ws → new ≡ put_words marks outs written old → EvaluatesTaints n stored values t released c old new
+outputs_taints_found n c x stored t released marks given_vs given_ts vs ts ws written outs values old new w role size m hx fit ho hgv hgt hv ht hw hs k =
+    outputs_taints n c stored written t released marks values old new w role size m
+    (λ p i l.
+    let wide : get_or (map length (cell_at n c).outputs) p 0 ≡ output_width x p = ap (λ (z : Cell). get_or (map length z.outputs) p 0) (sym hx) ∙ ap (λ ns. get_or ns p 0) fit.outputs in
+    ap (λ (us : List Word). bit (operand us p) i) hs ∙ hw p i (omega arith) ∙ ap (λ (us : List Word). output_taint x p i us given_ts) (hgv ∙ hv) ∙ ap (λ (us : List Word). output_taint x p i (operand_words (bit values) x) us) (hgt ∙ ht)
+    ∙ ap (λ (z : Cell). output_taint z p i (operand_words (bit values) z) (operand_taints (bit old) z)) hx)
+    (k ∙ ap (λ (us : _). put_words marks us written old) (ho ∙ ap (λ (z : Cell). z.outputs) hx))
+
+-- ---- registers with asynchronous reset
+
+pub register_values_found : (n : Netlist) (c : ℕ) (x : Cell) (stored : List Word) (own w written : Word) (outs : _) (old new : List Bool) → IsWired n → role_at n c ≡ ResetRegister → length old ≡ length n.drivers → x ≡ cell_at n c
+    → outs ≡ get_or x.outputs 0 [] → own ≡ get_or stored c [] → w ≡ shown_word x (bit (operand (operand_words (bit old) x) (reset_operand x.kind)) 0) own → written ≡ w → new ≡ put_word [] outs written old → EvaluatesValues n stored c old new
+register_values_found n c x stored own w written outs old new wired role size hx ho hs hw hk k =
+    register_values n c stored written old new wired role size
+    (hk ∙ hw ∙ ap (λ (u : Word). shown_word x (bit (operand (operand_words (bit old) x) (reset_operand x.kind)) 0) u) hs
+    ∙ ap (λ (z : Cell). shown_word z (bit (operand (operand_words (bit old) z) (reset_operand z.kind)) 0) (get_or stored c [])) hx)
+    (k ∙ ap (λ (ts : _). put_word [] ts written old) (ho ∙ ap (λ (z : Cell). get_or z.outputs 0 []) hx))
+
+pub register_taints_found : (n : Netlist) (c : ℕ) (x : Cell) (stored : List Word) (t : TaintState) (released : ℕ → Bool) (own own_taint w written : Word) (outs : _) (marks values old new : List Bool) → IsWired n → role_at n c ≡ ResetRegister → length old ≡ length n.drivers
+    → Marks n marks released → x ≡ cell_at n c → IsFitted x → outs ≡ get_or x.outputs 0 [] → own ≡ get_or stored c [] → own_taint ≡ get_or t.stored c []
+    → w ≡ shown_taint x (operand (operand_words (bit values) x) (reset_operand x.kind)) (operand (operand_taints (bit old) x) (reset_operand x.kind)) own own_taint → written ≡ w → new ≡ put_word marks outs written old → EvaluatesTaints n stored values t released c old new
+register_taints_found n c x stored t released own own_taint w written outs marks values old new wired role size m hx fit ho hs ht hw hk k =
+    let ports = ports_of_register (cell_at n c) (bit values) role (subst (λ (z : Cell). IsFitted z) hx fit) in
+    register_taints n c stored written t released marks values old new wired role ports.q size m
+    (hk ∙ hw
+    ∙ ap (λ (u : Word). shown_taint x (operand (operand_words (bit values) x) (reset_operand x.kind)) (operand (operand_taints (bit old) x) (reset_operand x.kind)) u own_taint) hs
+    ∙ ap (λ (u : Word). shown_taint x (operand (operand_words (bit values) x) (reset_operand x.kind)) (operand (operand_taints (bit old) x) (reset_operand x.kind)) (get_or stored c []) u) ht
+    ∙ ap (λ (z : Cell). shown_taint z (operand (operand_words (bit values) z) (reset_operand z.kind)) (operand (operand_taints (bit old) z) (reset_operand z.kind)) (get_or stored c []) (get_or t.stored c [])) hx)
+    (k ∙ ap (λ (ts : _). put_word marks ts written old) (ho ∙ ap (λ (z : Cell). get_or z.outputs 0 []) hx))
+
+-- ---- memories
+
+pub memory_values_found : (n : Netlist) (c : ℕ) (x : Cell) (stored : List Word) (own w written : Word) (outs : _) (old new : List Bool) → IsWired n → role_at n c ≡ MemoryBlock → length old ≡ length n.drivers → x ≡ cell_at n c → IsFitted x → HasMemoryNumbers x
+    → outs ≡ get_or x.outputs 0 [] → own ≡ get_or stored c [] → w ≡ read_words x (number_of x RdPorts) (operand_words (bit old) x) own → written ≡ w → new ≡ put_word [] outs written old → EvaluatesValues n stored c old new
+memory_values_found n c x stored own w written outs old new wired role size hx fit numbers ho hs hw hk k =
+    let few : HasMemoryNumbers (cell_at n c) = subst (λ (z : Cell). HasMemoryNumbers z) hx numbers in
+    let ports = ports_of_memory (cell_at n c) (bit old) role (subst (λ (z : Cell). IsFitted z) hx fit) in
+    memory_values n c stored written old new wired role few.some_bits ports.read_data size
+    (hk ∙ hw ∙ ap (λ (u : Word). read_words x (number_of x RdPorts) (operand_words (bit old) x) u) hs ∙ ap (λ (z : Cell). read_words z (number_of z RdPorts) (operand_words (bit old) z) (get_or stored c [])) hx)
+    (k ∙ ap (λ (ts : _). put_word [] ts written old) (ho ∙ ap (λ (z : Cell). get_or z.outputs 0 []) hx))
+
+pub memory_taints_found : (n : Netlist) (c : ℕ) (x : Cell) (stored : List Word) (t : TaintState) (released : ℕ → Bool) (own_taint w written : Word) (flag : Bool) (outs : _) (marks values old new : List Bool) → IsWired n → role_at n c ≡ MemoryBlock → length old ≡ length n.drivers
+    → Marks n marks released → x ≡ cell_at n c → IsFitted x → HasMemoryNumbers x → outs ≡ get_or x.outputs 0 [] → own_taint ≡ get_or t.stored c [] → flag ≡ get_or t.flags c false
+    → w ≡ read_taints x (number_of x RdPorts) (operand_words (bit values) x) (operand_taints (bit old) x) flag own_taint → written ≡ w → new ≡ put_word marks outs written old → EvaluatesTaints n stored values t released c old new
+memory_taints_found n c x stored t released own_taint w written flag outs marks values old new wired role size m hx fit numbers ho hs hf hw hk k =
+    let few : HasMemoryNumbers (cell_at n c) = subst (λ (z : Cell). HasMemoryNumbers z) hx numbers in
+    let ports = ports_of_memory (cell_at n c) (bit values) role (subst (λ (z : Cell). IsFitted z) hx fit) in
+    memory_taints n c stored written t released marks values old new wired role few.some_bits ports.read_data size m
+    (hk ∙ hw ∙ ap (λ (u : Word). read_taints x (number_of x RdPorts) (operand_words (bit values) x) (operand_taints (bit old) x) flag u) hs
+    ∙ ap (λ (f : Bool). read_taints x (number_of x RdPorts) (operand_words (bit values) x) (operand_taints (bit old) x) f (get_or t.stored c [])) hf
+    ∙ ap (λ (z : Cell). read_taints z (number_of z RdPorts) (operand_words (bit values) z) (operand_taints (bit old) z) (get_or t.flags c false) (get_or t.stored c [])) hx)
+    (k ∙ ap (λ (ts : _). put_word marks ts written old) (ho ∙ ap (λ (z : Cell). get_or z.outputs 0 []) hx))

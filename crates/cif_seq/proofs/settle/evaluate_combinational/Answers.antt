@@ -1,0 +1,31 @@
+-- What is written is what the cell of the netlist gives.
+use Rattle.std.proofs.Common.{◌∙◌, ap}
+use Rattle.cif_defs.specs.Words.{bit}
+use Rattle.cif_defs.specs.Stimulus.{is_released}
+use Rattle.cif_seq.specs.Cases.{net_of}
+use Rattle.cif_seq.proofs.CaseLaws.{narrow_found, taints_found, values_found}
+use Rattle.cif_seq.proofs.Found.{outputs_taints_found, outputs_values_found}
+use Rattle.cif_seq.proofs.settle.evaluate_combinational.Goals as goal
+
+pub value_words-requires : goal.value_words-requires
+value_words-requires c = narrow_found c.cell-cell.result.now _ c.cell-cell.ensures.is c.cell-cell.ensures.fitted c.requires.role
+
+pub taint_words-requires : goal.taint_words-requires
+taint_words-requires c = narrow_found c.cell-cell.result.now _ c.cell-cell.ensures.is c.cell-cell.ensures.fitted c.requires.role
+
+pub cell_words-requires-clause-values : goal.cell_words-requires-clause-values
+cell_words-requires-clause-values c = values_found (bit c.args.values.now) c.cell-cell.result.now _ _ c.deref.ensures.value c.in_ok-operand_values.ensures
+
+pub cell_words-requires-clause-taints : goal.cell_words-requires-clause-taints
+cell_words-requires-clause-taints c = taints_found (bit c.args.taints.now) c.cell-cell.result.now _ _ c.deref-2.ensures.value c.in_ok-operand_taints.ensures
+
+pub returns-clause-values : goal.returns-clause-values
+returns-clause-values c = λ _ stored.
+    outputs_values_found (net_of c.args.case.now) c.args.number c.cell-cell.result.now stored c.deref.result.now _ _ c.deref-3.result.now c.outputs.result.now c.args.values.now _ c.cell-cell.ensures.wired c.requires.role c.requires.as_many_values c.cell-cell.ensures.is
+    c.outputs.ensures c.deref.ensures.value c.in_ok-operand_values.ensures c.in_ok-words.ensures.values c.deref-3.ensures.value c.write_words.ensures
+
+pub returns-clause-taints : goal.returns-clause-taints
+returns-clause-taints c = λ _ stored t.
+    outputs_taints_found (net_of c.args.case.now) c.args.number c.cell-cell.result.now stored t (is_released c.args.case.now.stimulus.lines) c.released.result.now c.deref.result.now c.deref-2.result.now _ _ _ c.deref-4.result.now c.outputs-2.result.now c.args.values.now c.args.taints.now _
+    c.cell-cell.ensures.wired c.requires.role c.requires.as_many_taints c.released.ensures c.cell-cell.ensures.is c.cell-cell.ensures.fitted
+    c.outputs-2.ensures c.deref.ensures.value c.deref-2.ensures.value c.in_ok-operand_values.ensures c.in_ok-operand_taints.ensures c.in_ok-words.ensures.taints c.deref-4.ensures.value c.write_words-2.ensures

@@ -1,0 +1,233 @@
+// What registers and memories start with.
+ghost use Rattle.std.specs.Prelude.{◌≡◌, ◌+◌, ◌*◌, ◌<◌, ◌≤◌, ◌∷◌, [], List, ℕ, Bool, true, false, bytes_eq, map, replicate, length, get_or, None, IfOk, OnOk, MatchOption};
+ghost use Rattle.cif_defs.specs.Words.{bit, word};
+ghost use Rattle.cif_defs.specs.Cells.{Cell as CellData, state_bits, width};
+ghost use Rattle.cif_defs.specs.Accepted.{netlist_of};
+ghost use Rattle.cif_defs.specs.Netlist.{cell_at};
+ghost use Rattle.cif_defs.specs.Stimulus.{StimLine as LineData, start_at, started_by, with_row};
+ghost use Rattle.cif_stim.specs.StimulusView.{line_seen, tainted};
+ghost use Rattle.cif_seq.specs.Rows.{IsPutAt};
+ghost use Rattle.cif_seq.specs.Starts.{starts_named, start_from, line_at, IsTableFrom, SameBits};
+
+use crate::bits::bit_of;
+use cif_bits::NoMemory;
+use cif_cells::{Cell, Netlist, Param, Role, table};
+use cif_stim::{StimLine, Stimulus};
+use std::alloc::{AllocError, Global};
+use std::collections::BTreeMap;
+
+/// The lines of a stimulus that say what registers and memories start with, by the names of their cells.
+#[derive(Drop)]
+pub struct StartLines<'a> {
+    // For each name the first line that names it.
+    first: BTreeMap<&'a [u8], usize>,
+    // For each such line the next of its name.
+    following: Vec<Option<usize>>,
+}
+
+/// The word with which a register or a memory starts, and its taint.
+#[derive(Drop)]
+pub struct StartWord {
+    pub value: Vec<bool>,
+    pub taint: Vec<bool>,
+}
+
+/// The name of the register or memory of which a line says what it starts with.
+fn started_name(line: &StimLine) -> Option<&[u8]>
+    ensures { MatchOption result ((q : List ℕ) → starts_named q (line_seen line.now) ≡ false)
+        (λ name. (q : List ℕ) → starts_named q (line_seen line.now) ≡ bytes_eq name.now q) }
+{
+    match line {
+        StimLine::Reg { cell, .. } => Some(cell.items()),
+        StimLine::Mem { cell, .. } => Some(cell.items()),
+        StimLine::Release { .. } | StimLine::Cycle(_) | StimLine::Set { .. } => None,
+    }
+}
+
+impl<'a> StartLines<'a> {
+    /// Notes a line that stands before those that are noted.
+    fn note(&mut self, place: usize, line: &'a StimLine) -> Result<(), AllocError>
+        requires { place < length self.old.following.items }
+        ensures { OnOk result ((lines : List LineData) → line_seen line.now ≡ line_at lines place
+            → place < length lines → IsTableFrom lines (place + 1) self.old
+            → IsTableFrom lines place self.new) }
+    {
+        if let Some(name) = started_name(line) {
+            let next = self.first.insert(name, place)?;
+            self.following[place] = next;
+        }
+        Ok(())
+    }
+
+    /// The table of some lines.
+    pub fn of(alloc: Global, lines: &'a [StimLine]) -> Result<StartLines<'a>, NoMemory>
+        ensures { IfOk result (λ t. IsTableFrom (map line_seen lines.now) 0 t) }
+    {
+        let following = vec![in alloc; None; lines.len()]?;
+        let mut table = StartLines {
+            first: BTreeMap::new(alloc),
+            following,
+        };
+        let mut place = lines.len();
+        while place > 0 {
+            place -= 1;
+            table.note(place, &lines[place])?;
+        }
+        Ok(table)
+    }
+
+    /// The first line of a name.
+    fn first(&self, name: &'a [u8]) -> Option<usize>
+        ensures { (lines : List LineData) → IsTableFrom lines 0 self.now
+            → result ≡ start_from 0 lines name.now }
+    {
+        self.first.get(&name).copied()
+    }
+
+    /// The line after a line of a name.
+    fn next(&self, place: usize) -> Option<usize>
+        requires { place < length self.now.following.items }
+        ensures { result ≡ get_or self.now.following.items place None }
+    {
+        self.following[place]
+    }
+}
+
+/// How many rows of WIDTH bits a cell stores: the words of a memory, and the one of a register.
+fn row_count(cell: &Cell) -> u64
+    ensures { result * width cell.now ≡ state_bits cell.now }
+{
+    match table::role(cell.kind()) {
+        Role::PlainRegister | Role::ResetRegister => 1,
+        Role::MemoryBlock => cell.number(Param::Size),
+        Role::Combinational | Role::CarriedOver => 0,
+    }
+}
+
+/// Writes `width` bits of a word from place `at` on; bits that the source lacks are 0.
+fn put_at(bits: &mut [bool], at: usize, width: usize, source: &[bool])
+    requires { at + width ≤ length bits.old }
+    ensures { IsPutAt at (word width (λ i. bit source.now i)) bits.old bits.new }
+{
+    for i in 0..width {
+        bits[at + i] = bit_of(source, i);
+    }
+}
+
+/// Writes a row of a word that has `rows` rows of `width` bits. A row past the last is not there.
+fn put_row(bits: &mut [bool], rows: u64, width: u64, row: u64, source: &[bool])
+    requires { length bits.old ≡ rows * width }
+    ensures { bits.new ≡ with_row (length bits.old) width row source.now bits.old }
+{
+    if row < rows {
+        put_at(bits, (row * width) as usize, width as usize, source);
+    }
+}
+
+/// Writes what a line says that a cell starts with, where `rows` is the cell's number of rows.
+fn take_line(cell: &Cell, rows: u64, line: &StimLine, value: &mut [bool], taint: &mut [bool])
+    requires named { starts_named cell.now.name (line_seen line.now) ≡ true }
+    requires rows { rows * width cell.now ≡ state_bits cell.now }
+    requires value { length value.old ≡ state_bits cell.now }
+    requires taint { length taint.old ≡ state_bits cell.now }
+    ensures { SameBits (state_bits cell.now)
+        (started_by (line_seen line.now ∷ []) cell.now (tainted value.old taint.old))
+        (tainted value.new taint.new) }
+{
+    match line {
+        StimLine::Reg {
+            value: given,
+            taint: given_taint,
+            ..
+        } => {
+            put_at(value, 0, value.len(), given.bits());
+            put_at(taint, 0, taint.len(), given_taint.bits());
+        }
+        StimLine::Mem {
+            address,
+            value: given,
+            taint: given_taint,
+            ..
+        } => {
+            let width = cell.number(Param::Width);
+            let row = address.saturating_sub(cell.number(Param::Offset));
+            put_row(value, rows, width, row, given.bits());
+            put_row(taint, rows, width, row, given_taint.bits());
+        }
+        StimLine::Release { .. } | StimLine::Cycle(_) | StimLine::Set { .. } => {}
+    }
+}
+
+/// Writes what the lines that name a cell say that it starts with, where `rows` is the cell's number of rows.
+fn take_lines<'a>(
+    cell: &'a Cell,
+    rows: u64,
+    lines: &'a [StimLine],
+    table: &StartLines<'a>,
+    value: &mut [bool],
+    taint: &mut [bool],
+)
+    requires table { IsTableFrom (map line_seen lines.now) 0 table.now }
+    requires rows { rows * width cell.now ≡ state_bits cell.now }
+    requires value { length value.old ≡ state_bits cell.now }
+    requires taint { length taint.old ≡ state_bits cell.now }
+    ensures { SameBits (state_bits cell.now)
+        (started_by (map line_seen lines.now) cell.now (tainted value.old taint.old))
+        (tainted value.new taint.new) }
+{
+    let mut at = table.first(cell.name().items());
+    while let Some(place) = at {
+        take_line(cell, rows, &lines[place], value, taint);
+        at = table.next(place);
+    }
+}
+
+/// The first `size` bits of the word that the netlist gives a cell to start with.
+fn given_word(
+    alloc: Global,
+    netlist: &Netlist,
+    number: u32,
+    size: u64,
+) -> Result<Vec<bool>, AllocError>
+    requires { number < length (netlist_of netlist.now).initial }
+    ensures { IfOk result (λ w. w.items
+        ≡ word size (λ i. bit (get_or (netlist_of netlist.now).initial number []) i)) }
+{
+    let mut bits = Vec::with_capacity(alloc, size as usize)?;
+    for index in 0..size {
+        bits.push(netlist.initial(number, index))?;
+    }
+    Ok(bits)
+}
+
+/// A word of `size` bits that are all 0.
+fn clear_word(alloc: Global, size: u64) -> Result<Vec<bool>, AllocError>
+    ensures { IfOk result (λ w. w.items ≡ replicate size false) }
+{
+    vec![in alloc; false; size as usize]
+}
+
+/// The word with which a cell starts, and its taint, by the lines that name it.
+pub fn start_word<'a>(
+    alloc: Global,
+    netlist: &'a Netlist,
+    stimulus: &'a Stimulus,
+    table: &StartLines<'a>,
+    number: u32,
+) -> Result<StartWord, NoMemory>
+    requires number { number < length (netlist_of netlist.now).cells }
+    requires table { IsTableFrom stimulus.now.lines 0 table.now }
+    ensures value { IfOk result
+        (λ s. s.value.items ≡ (start_at (netlist_of netlist.now) stimulus.now number).value) }
+    ensures taint { IfOk result
+        (λ s. s.taint.items ≡ (start_at (netlist_of netlist.now) stimulus.now number).taint) }
+{
+    let cell = &netlist.cells()[number as usize];
+    let rows = row_count(cell);
+    let size = rows * cell.number(Param::Width);
+    let lines = stimulus.lines();
+    let mut value = given_word(alloc, netlist, number, size)?;
+    let mut taint = clear_word(alloc, size)?;
+    take_lines(cell, rows, lines, table, &mut value, &mut taint);
+    Ok(StartWord { value, taint })
+}
