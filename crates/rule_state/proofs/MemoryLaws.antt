@@ -1,8 +1,7 @@
--- What one write port does, and one read, is what the memory's own recursion over its ports says: port is write port
--- number p of the joined operands vs, with the taints ts.
-use Rattle.std.specs.Prelude.{ℕ, suc, ◌+◌, ◌-◌, ◌*◌, ◌/◌, ◌<◌, ◌≡◌, ◌≢◌, ◌==◌, nat_le, nat_lt, Bool, true, false, not, ◌&&◌, ◌||◌, List, [], ◌∷◌, map, length, refl, if◌then◌else◌}
+-- What one write port does, and one read, is what the memory's own recursion over its ports says.
+use Rattle.std.specs.Prelude.{ℕ, suc, ◌+◌, ◌-◌, ◌*◌, ◌/◌, ◌<◌, ◌≤◌, ◌≡◌, ◌≢◌, ◌==◌, nat_le, nat_lt, Bool, true, false, not, ◌&&◌, ◌||◌, List, [], ◌∷◌, map, length, refl, if◌then◌else◌}
 use Rattle.std.specs.List.{list_any, range_with_len}
-use Rattle.std.proofs.Common.{arith, sym, ap, ◌∙◌}
+use Rattle.std.proofs.Common.{add-one, arith, sym, ap, ◌∙◌}
 use Rattle.std.proofs.lemmas.Bool.Decides.{nat_tests}
 use Rattle.std.proofs.lemmas.Nat.{div-mul-add, mod-mul-add, mul-add-lt}
 use Rattle.cif_defs.specs.Cells.{Cell, shape_of}
@@ -10,21 +9,9 @@ use Rattle.cif_defs.specs.Memory.{MemoryShape, data_place, is_addressed, is_insi
 use Rattle.cif_defs.specs.Words.{Word, bit, block, has_one, number, operand, word, zeros}
 use Rattle.cif_defs.proofs.Numbers.{word-same}
 use Rattle.cif_defs.proofs.WordLaws.{bit-word, length-word}
-use Rattle.rule_state.specs.MemoryTaints.{HasPortWidths, port_sets_flag, taint_after_port, taint_of_read}
+use Rattle.rule_state.specs.MemoryTaints.{HasPortWidths, IsPortOf, port_sets_flag, taint_after_port, taint_of_read, taint_row}
 use Rattle.rule_state.proofs.BitChoices.{middle}
 use Rattle.rule_state.specs.declared.memory.WritePort.{WritePort}
-
-pub record IsPortOf (m : MemoryShape) (vs ts : List Word) (p : ℕ) (port : WritePort) : Type 0 where
-  pub addr : port.addr ≡ write_address m vs p
-  pub addr_taint : port.addr_taint ≡ write_address m ts p
-  pub enable : port.enable ≡ block m.width p (operand vs 1)
-  pub enable_taint : port.enable_taint ≡ block m.width p (operand ts 1)
-  pub word : port.word ≡ block m.width p (operand vs 3)
-  pub word_taint : port.word_taint ≡ block m.width p (operand ts 3)
-
--- the stored taint of row r after the write ports below p
-abbrev pub taint_row : MemoryShape → List Word → List Word → ℕ → Word → ℕ → Word
-taint_row m vs ts p taint r = word m.width (λ i. written_taint_bit m vs ts p taint (r * m.width + i))
 
 -- the words of such a port have the widths that the cell says
 pub port_widths : (c : Cell) (vs ts : List Word) (p : ℕ) (port : WritePort) → IsPortOf (shape_of c) vs ts p port → HasPortWidths c port
@@ -155,3 +142,22 @@ pub read_outside : (m : MemoryShape) (address addr_taint : Word) (flag : Bool) (
 unfolding read_word
 read_outside m address addr_taint flag taint h =
     ap (λ (w : Word). taint_of_read addr_taint flag w) (ap (λ b. word m.width (λ i. b && bit taint (row_at m address * m.width + i))) (sym h)) ∙ read_of_row m address addr_taint flag taint
+
+-- ---- what the calls give
+
+pub flag_defined : (port : WritePort) (flag : Bool) → flag ≡ port_sets_flag port
+    → (m : MemoryShape) (vs ts : List Word) (p : ℕ) → IsPortOf m vs ts p port → flag ≡ sets_flag m vs ts p
+flag_defined port flag h m vs ts p is = h ∙ port_flag m vs ts p port is
+
+pub write_defined : (m : MemoryShape) (port : WritePort) (address : ℕ) (old new : Word) → m.offset ≤ address → address < m.offset + m.size → new ≡ taint_after_port m.width port address old
+    → (vs ts : List Word) (p : ℕ) (taint : Word) → IsPortOf m vs ts p port → old ≡ taint_row m vs ts p taint (address - m.offset) → new ≡ taint_row m vs ts (p + 1) taint (address - m.offset)
+write_defined m port address old new from inside h vs ts p taint is before =
+    let r : ℕ = address - m.offset in
+    let place : address ≡ r + m.offset = omega arith in
+    rw add-one
+    (h ∙ ap (λ (w : Word). taint_after_port m.width port address w) before ∙ ap (λ a. taint_after_port m.width port a (taint_row m vs ts p taint r)) place
+    ∙ row_after_port m vs ts p port taint r is (omega arith))
+
+pub read_defined : (addr_taint : Word) (flag : Bool) (stored w : Word) → w ≡ taint_of_read addr_taint flag stored
+    → (m : MemoryShape) (address taint : Word) → stored ≡ read_word m address taint → w ≡ read_taint m address addr_taint flag taint
+read_defined addr_taint flag stored w h m address taint is = h ∙ ap (λ (x : Word). taint_of_read addr_taint flag x) is ∙ read_of_row m address addr_taint flag taint

@@ -1,7 +1,8 @@
 -- What one write port does to the taint of a memory, and the taint of one read.
-use Rattle.std.specs.Prelude.{ℕ, ◌==◌, ◌≡◌, Bool, not, ◌&&◌, ◌||◌, length, if◌then◌else◌}
-use Rattle.cif_defs.specs.Words.{Word, bit, has_one, number, word}
+use Rattle.std.specs.Prelude.{ℕ, ◌+◌, ◌*◌, ◌==◌, ◌≡◌, Bool, not, ◌&&◌, ◌||◌, List, length, if◌then◌else◌}
+use Rattle.cif_defs.specs.Words.{Word, bit, block, has_one, number, operand, word}
 use Rattle.cif_defs.specs.Cells.{Cell, number_of, width}
+use Rattle.cif_defs.specs.Memory.{MemoryShape, write_address, written_taint_bit}
 use Rattle.cif_defs.specs.declared.kinds.Param.TheVariants.{Abits}
 use Rattle.rule_state.specs.declared.memory.WritePort.{WritePort}
 
@@ -33,3 +34,18 @@ taint_after_port n port address stored = word n (λ i.
 -- the taint of a read: all ones where an address bit is tainted or the flag is set, else the stored taint that is read
 abbrev pub taint_of_read : Word → Bool → Word → Word
 taint_of_read addr_taint flag stored = word (length stored) (λ i. has_one addr_taint || flag || bit stored i)
+
+-- ---- against the memory's own recursion over its ports
+
+-- port is write port number p of the joined operands vs, with the taints ts
+pub record IsPortOf (m : MemoryShape) (vs ts : List Word) (p : ℕ) (port : WritePort) : Type 0 where
+  pub addr : port.addr ≡ write_address m vs p
+  pub addr_taint : port.addr_taint ≡ write_address m ts p
+  pub enable : port.enable ≡ block m.width p (operand vs 1)
+  pub enable_taint : port.enable_taint ≡ block m.width p (operand ts 1)
+  pub word : port.word ≡ block m.width p (operand vs 3)
+  pub word_taint : port.word_taint ≡ block m.width p (operand ts 3)
+
+-- the stored taint of row r after the write ports below p
+abbrev pub taint_row : MemoryShape → List Word → List Word → ℕ → Word → ℕ → Word
+taint_row m vs ts p taint r = word m.width (λ i. written_taint_bit m vs ts p taint (r * m.width + i))

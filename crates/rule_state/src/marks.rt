@@ -12,7 +12,9 @@ use std::alloc::Global;
 /// A word and its taint. Neither term names what may stand around it.
 #[derive(Drop)]
 pub struct MarkedTerm {
+    /// The word.
     pub value: Term,
+    /// Its taint.
     pub taint: Term,
 }
 
@@ -32,7 +34,9 @@ impl MarkedTerm {
 /// is.
 #[derive(Clone, Copy)]
 pub struct Control {
+    /// The operand.
     pub port: u32,
+    /// The bit at which it is active.
     pub polarity: u64,
 }
 

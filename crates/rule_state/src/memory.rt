@@ -1,9 +1,10 @@
 // The taint of memories: what a write port does to it, and that of a read.
-ghost use Rattle.std.specs.Prelude.{◌≡◌, ◌+◌, ◌<◌, ◌≤◌, ◌==◌, ◌&&◌, not, true, length, if◌then◌else◌, ◌||◌, IfOk};
-ghost use Rattle.cif_defs.specs.Words.{bit, has_one, number, word};
+ghost use Rattle.std.specs.Prelude.{◌≡◌, ◌+◌, ◌-◌, ◌<◌, ◌≤◌, ◌==◌, ◌&&◌, not, true, length, ℕ, List, if◌then◌else◌, ◌||◌, IfOk};
+ghost use Rattle.cif_defs.specs.Words.{Word, bit, has_one, number, word};
 ghost use Rattle.cif_defs.specs.Kinds.{role_of};
-ghost use Rattle.cif_defs.specs.Cells.{number_of, width as width_of};
-ghost use Rattle.rule_state.specs.MemoryTaints.{HasPortWidths, may_write, port_sets_flag, taint_after_port, taint_of_read};
+ghost use Rattle.cif_defs.specs.Cells.{number_of, shape_of, width as width_of};
+ghost use Rattle.cif_defs.specs.Memory.{MemoryShape, read_taint as read_taint_of, read_word, sets_flag};
+ghost use Rattle.rule_state.specs.MemoryTaints.{HasPortWidths, IsPortOf, may_write, port_sets_flag, taint_after_port, taint_of_read, taint_row};
 
 use cif_bits::{Bits, NoMemory};
 use cif_cells::{Cell, Param, Role};
@@ -45,7 +46,10 @@ pub fn read_taint(
     flag: bool,
     stored: &Bits,
 ) -> Result<Bits, NoMemory>
-    ensures { IfOk result (λ w. w ≡ taint_of_read addr_taint.now flag stored.now) }
+    ensures is { IfOk result (λ w. w ≡ taint_of_read addr_taint.now flag stored.now) }
+    ensures defined { IfOk result (λ w. (m : MemoryShape) (address taint : Word)
+        → stored.now ≡ read_word m address taint
+        → w ≡ read_taint_of m address addr_taint.now flag taint) }
 {
     let tainted = flag | addr_taint.reduce_or();
     if tainted {
@@ -57,7 +61,9 @@ pub fn read_taint(
 
 /// Whether a write port sets the flag of its memory for good: an address bit is tainted, and an enable is 1 or tainted.
 pub fn write_flag(port: &WritePort) -> bool
-    ensures { result ≡ port_sets_flag port.now }
+    ensures is { result ≡ port_sets_flag port.now }
+    ensures defined { (m : MemoryShape) (vs ts : List Word) (p : ℕ) → IsPortOf m vs ts p port.now
+        → result ≡ sets_flag m vs ts p }
 {
     port.addr_taint.reduce_or() && (port.enable.reduce_or() || port.enable_taint.reduce_or())
 }
@@ -108,7 +114,11 @@ pub fn write_taint(cell: &Cell, port: &WritePort, address: u64, stored: &mut Bit
     requires from_offset { number_of cell.now Param.Offset ≤ address }
     requires inside { address < number_of cell.now Param.Offset + number_of cell.now Param.Size }
     requires stored { length stored.old ≡ width_of cell.now }
-    ensures { stored.new ≡ taint_after_port (width_of cell.now) port.now address stored.old }
+    ensures is { stored.new ≡ taint_after_port (width_of cell.now) port.now address stored.old }
+    ensures defined { (vs ts : List Word) (p : ℕ) (taint : Word)
+        → IsPortOf (shape_of cell.now) vs ts p port.now
+        → stored.old ≡ taint_row (shape_of cell.now) vs ts p taint (address - number_of cell.now Param.Offset)
+        → stored.new ≡ taint_row (shape_of cell.now) vs ts (p + 1) taint (address - number_of cell.now Param.Offset) }
 {
     let width = stored.width();
     prove!(u64::from(width) == cell.number(Param::Width));
