@@ -40,6 +40,15 @@ last_first true false = refl
 last_first false true = refl
 last_first false false = refl
 
+-- the order of lines says nothing of whether one of them passes a test
+pub any_reversed : (test : LineData → Bool) (ls : List LineData) → list_any test (reverse ls) ≡ list_any test ls
+any_reversed test [] = refl
+any_reversed test (l ∷ ls) =
+    ap (list_any test) (reverse-cons l ls)
+    ∙ list_any-append test (reverse ls) (l ∷ [])
+    ∙ last_first (list_any test (reverse ls)) (test l)
+    ∙ ap (λ b. test l || b) (any_reversed test ls)
+
 pub any_before : (test : LineData → Bool) (ls : List StimLine) → list_any (λ l. test (line_seen l)) ls ≡ list_any test (reverse (map line_seen ls))
 any_before test [] = refl
 any_before test (l ∷ ls) = sym

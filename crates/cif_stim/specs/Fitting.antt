@@ -31,13 +31,21 @@ is_clock_source n (Bit b) = is_clock_driver (driver_of n b)
 is_clock_source n Zero = false
 is_clock_source n One = false
 
+-- a port, where it isn't the clock
+abbrev pub other_than_clock : Netlist → Option Wire → Option Wire
+other_than_clock n port = option_and_then (λ (w : Wire). if list_any (is_clock_source n) w.bits then None else Some w) port
+
 -- the input port of a name, other than the clock
 unfoldable pub settable : Netlist → List ℕ → Option Wire
-settable n name = option_and_then (λ (w : Wire). if list_any (is_clock_source n) w.bits then None else Some w) (find (λ (w : Wire). bytes_eq w.name name) n.inputs)
+settable n name = other_than_clock n (find (λ (w : Wire). bytes_eq w.name name) n.inputs)
+
+-- a cell, where it has a role of this sort
+abbrev pub with_role : (Role → Bool) → Option Cell → Option Cell
+with_role has_role cell = option_and_then (λ (c : Cell). if has_role (role_of c.kind) then Some c else None) cell
 
 -- the cell of a name, where it has a role of this sort
 abbrev pub cell_as : (Role → Bool) → List Cell → List ℕ → Option Cell
-cell_as has_role cells name = option_and_then (λ (c : Cell). if has_role (role_of c.kind) then Some c else None) (find (λ (c : Cell). bytes_eq c.name name) cells)
+cell_as has_role cells name = with_role has_role (find (λ (c : Cell). bytes_eq c.name name) cells)
 
 -- the register, and the memory, of a name
 unfoldable pub register_named : Netlist → List ℕ → Option Cell
@@ -119,6 +127,10 @@ is_mem_of name address _ = false
 abbrev pub is_release_of : List ℕ → LineData → Bool
 is_release_of name (release_line other bits) = bytes_eq other name
 is_release_of name _ = false
+
+-- whether one of some lines releases a name
+abbrev pub is_name_released : List LineData → List ℕ → Bool
+is_name_released lines name = list_any (is_release_of name) lines
 
 -- whether a port is set in the group that lines end in
 abbrev pub is_set_among : List ℕ → List LineData → Bool

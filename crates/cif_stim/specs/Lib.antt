@@ -1,4 +1,5 @@
 pub mod Numbers
+pub mod Versions
 pub mod WordLists
 pub mod StimulusView
 pub mod Names

@@ -1,6 +1,6 @@
 -- Where the lines of a stimulus may stand: what cells start with and what is released comes first, then groups of sets, each
 -- begun by a cycle that is later than the one before.
-use Rattle.std.specs.Prelude.{ℕ, ◌≡◌, nat_le, nat_lt, Bool, true, not, ◌&&◌, ◌==◌, List, [], ◌∷◌, length, Option, Some, None, is_some}
+use Rattle.std.specs.Prelude.{ℕ, ◌≡◌, nat_le, nat_lt, Bool, true, not, ◌&&◌, ◌==◌, List, [], ◌∷◌, length, reverse, Option, Some, None, is_some}
 use Rattle.cif_defs.specs.Stimulus.{Stimulus as StimulusData, StimLine as LineData, TaintedWord, reg_line, mem_line, release_line, cycle_line, set_line}
 
 abbrev pub cycle_limit : ℕ
@@ -26,6 +26,10 @@ may_follow cycles before (set_line name w) = is_some (open_cycle before)
 may_follow cycles before (reg_line name w) = not (is_some (open_cycle before))
 may_follow cycles before (mem_line name address w) = not (is_some (open_cycle before))
 may_follow cycles before (release_line name bits) = not (is_some (open_cycle before))
+
+-- a line may stand after the lines of a stimulus
+abbrev pub may_add : StimulusData → LineData → Bool
+may_add s line = may_follow s.cycles (reverse s.lines) line
 
 -- a word has at least one bit, and its taint as many
 abbrev pub is_word : TaintedWord → Bool

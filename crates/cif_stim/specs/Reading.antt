@@ -9,6 +9,7 @@ use Rattle.cif_stim.specs.Given.{has, has_row}
 use Rattle.cif_stim.specs.Places.{open_cycle}
 use Rattle.cif_stim.specs.StimulusText.{numbered, lines_read, stimulus_read, ◌and_then◌}
 use Rattle.cif_stim.specs.StimulusView.{Adds}
+use Rattle.cif_stim.specs.Versions.{version_number}
 use Rattle.cif_stim.specs.declared.fault.StimFault.{StimFault}
 use Rattle.cif_stim.specs.declared.fault.StimFault.TheVariants.{BadLine, NoSuchName, WrongWidth, NoCycles, TooManyCycles, SetTwice, BadAddress, Memory}
 use Rattle.cif_stim.specs.declared.read.Head.{Head}
@@ -42,4 +43,4 @@ pub record IsReading (reader : Reader) : Type 0 where
 -- the first two lines are read, and the rest decides what the text gives
 abbrev pub IsHead : List ℕ → Head → Type 0
 IsHead bytes h = (raw : Raw) → stimulus_read raw bytes
-    ≡ lines_read raw (record { version = h.version; cycles = h.cycles }) [] (numbered h.number (lines_of h.rest.now)) and_then (λ lines. Ok (record { cycles = h.cycles; lines = lines }))
+    ≡ lines_read raw (record { version = version_number h.version; cycles = h.cycles }) [] (numbered h.number (lines_of h.rest.now)) and_then (λ lines. Ok (record { cycles = h.cycles; lines = lines }))

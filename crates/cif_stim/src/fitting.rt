@@ -10,9 +10,8 @@ ghost use Rattle.cif_stim.specs.StimulusView.{line_seen, tainted};
 ghost use Rattle.cif_stim.specs.Fitting.{settable, register_named, memory_named, is_address, is_of_width as is_of_width_by, is_stored_by, is_held_by, is_found_as as is_found_as_of, are_same_sources as are_same_sources_of, fits_alone as fits_alone_of, is_reg_of, is_mem_of, is_release_of, is_set_among, is_again as is_again_of, lines_fit as lines_fit_of};
 
 use crate::line::StimLine;
-use crate::names::{is_clock, is_memory, is_register};
+use crate::names::{unless_clock, where_memory, where_register};
 use cif_bits::Bits;
-use cif_cells::table::role;
 use cif_cells::{Cell, Found, Netlist};
 use cif_defs::{Param, Src, Wire};
 
@@ -36,16 +35,7 @@ fn cell_named<'a>(netlist: &'a Netlist, name: &[u8]) -> Option<&'a Cell>
 fn register<'a>(netlist: &'a Netlist, name: &[u8]) -> Option<&'a Cell>
     ensures { option_copied result ≡ register_named (netlist_of netlist.now) name.now }
 {
-    match cell_named(netlist, name) {
-        Some(cell) => {
-            if is_register(role(cell.kind())) {
-                Some(cell)
-            } else {
-                None
-            }
-        }
-        None => None,
-    }
+    where_register(cell_named(netlist, name))
 }
 
 /// The memory of a name.
@@ -53,16 +43,7 @@ fn register<'a>(netlist: &'a Netlist, name: &[u8]) -> Option<&'a Cell>
 fn memory<'a>(netlist: &'a Netlist, name: &[u8]) -> Option<&'a Cell>
     ensures { option_copied result ≡ memory_named (netlist_of netlist.now) name.now }
 {
-    match cell_named(netlist, name) {
-        Some(cell) => {
-            if is_memory(role(cell.kind())) {
-                Some(cell)
-            } else {
-                None
-            }
-        }
-        None => None,
-    }
+    where_memory(cell_named(netlist, name))
 }
 
 /// The port of a name. It looks through the ports from the first on.
@@ -77,16 +58,7 @@ fn port_named<'a>(ports: &'a [Wire], name: &[u8]) -> Option<&'a Wire>
 fn settable_port<'a>(netlist: &'a Netlist, name: &[u8]) -> Option<&'a Wire>
     ensures { option_copied result ≡ settable (netlist_of netlist.now) name.now }
 {
-    match port_named(netlist.inputs(), name) {
-        Some(port) => {
-            if is_clock(netlist, port) {
-                None
-            } else {
-                Some(port)
-            }
-        }
-        None => None,
-    }
+    unless_clock(netlist, port_named(netlist.inputs(), name))
 }
 
 /// Whether a word and its taint have so many bits.
@@ -116,7 +88,7 @@ fn fits_register(cell: Option<&Cell>, value: &Bits, taint: &Bits) -> bool
 }
 
 /// Whether there is a memory, it has an address, and a word has its width.
-pub fn fits_memory(cell: Option<&Cell>, address: u64, value: &Bits, taint: &Bits) -> bool
+fn fits_memory(cell: Option<&Cell>, address: u64, value: &Bits, taint: &Bits) -> bool
     ensures { result ≡ (is_some (option_copied cell.entry)
         && is_address address (option_copied cell.entry)
         && is_stored_by (tainted value.now taint.now) (option_copied cell.entry)) }
@@ -254,7 +226,7 @@ fn is_set(lines: &[StimLine], name: &[u8]) -> bool
 }
 
 /// Whether a line gives what one of the lines before it gave.
-pub fn is_again(line: &StimLine, before: &[StimLine]) -> bool
+fn is_again(line: &StimLine, before: &[StimLine]) -> bool
     ensures { result ≡ is_again_of (line_seen line.now) (reverse (map line_seen before.now)) }
 {
     match line {

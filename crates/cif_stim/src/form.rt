@@ -7,8 +7,10 @@ ghost use Rattle.cif_defs.specs.WordText.{word_of_text};
 ghost use Rattle.cif_stim.specs.Forms.{word_seen, said_line};
 ghost use Rattle.cif_stim.specs.StimulusText.{tainted_said, reg_said, mem_said, set_said, release_said, cycle_said, said_by, line_said};
 ghost use Rattle.cif_stim.specs.StimulusView.{tainted};
+ghost use Rattle.cif_stim.specs.Versions.{version_number};
 
 use crate::text::{are_visible, decode, first_word, is_binary, is_blank, only_word, read_number};
+use crate::version::Version;
 use cif_bits::{Bits, NoMemory};
 use cif_defs::Name;
 use std::alloc::Global;
@@ -16,9 +18,9 @@ use std::alloc::Global;
 /// The texts of a word and of its taint, binary digits with the highest first.
 #[derive(Clone, Copy)]
 pub struct WordText<'a> {
-    /// The word.
+    /// The digits of the word, one a bit.
     pub value: &'a [u8],
-    /// Its taint, where one is given.
+    /// The digits of its taint, where one is given.
     pub taint: Option<&'a [u8]>,
 }
 
@@ -27,13 +29,18 @@ pub struct WordText<'a> {
 pub enum Said<'a> {
     /// A register and its word.
     Reg {
+        /// The register's name.
         cell: Name,
+        /// Its word.
         word: WordText<'a>,
     },
     /// A memory, an address, and the word there.
     Mem {
+        /// The memory's name.
         cell: Name,
+        /// The address of a row; that of the first row is the memory's offset.
         address: u64,
+        /// The word of the row.
         word: WordText<'a>,
     },
     /// A net that is released.
@@ -42,7 +49,9 @@ pub enum Said<'a> {
     Cycle(u64),
     /// A port and its word.
     Set {
+        /// The port's name.
         port: Name,
+        /// Its word.
         word: WordText<'a>,
     },
 }
@@ -221,11 +230,11 @@ fn is_mem(verb: &[u8]) -> bool
     verb == b"mem".as_slice()
 }
 
-/// Whether the verb of a line releases a net, which only version 2 knows.
-fn is_release(version: u64, verb: &[u8]) -> bool
-    ensures { result ≡ (bytes_eq verb.now (codes "release") && version == 2) }
+/// Whether the verb of a line releases a net, which the version must allow.
+fn is_release(version: Version, verb: &[u8]) -> bool
+    ensures { result ≡ (bytes_eq verb.now (codes "release") && version_number version == 2) }
 {
-    verb == b"release".as_slice() && version == 2
+    verb == b"release".as_slice() && version.may_release()
 }
 
 /// Whether the verb of a line begins a group.
@@ -245,12 +254,12 @@ fn is_set(verb: &[u8]) -> bool
 /// What a verb and the text after it say.
 fn form_by<'a>(
     alloc: Global,
-    version: u64,
+    version: Version,
     verb: &[u8],
     text: &'a [u8],
 ) -> Result<Option<Said<'a>>, NoMemory>
     ensures { IfOk result (λ said. (raw : RawData)
-        → option_map (said_line raw) said ≡ said_by raw version verb.now (words_of text.now)) }
+        → option_map (said_line raw) said ≡ said_by raw (version_number version) verb.now (words_of text.now)) }
 {
     if is_reg(verb) {
         let said = reg_form(alloc, text)?;
@@ -274,10 +283,10 @@ fn form_by<'a>(
     Ok(None)
 }
 
-/// What a line says; None where it has no form. Only version 2 knows `release`.
-pub fn form_of(alloc: Global, version: u64, line: &[u8]) -> Result<Option<Said<'_>>, NoMemory>
+/// What a line says; None where it has no form that its version knows.
+pub fn form_of(alloc: Global, version: Version, line: &[u8]) -> Result<Option<Said<'_>>, NoMemory>
     ensures { IfOk result (λ said. (raw : RawData)
-        → option_map (said_line raw) said ≡ line_said raw version (words_of line.now)) }
+        → option_map (said_line raw) said ≡ line_said raw (version_number version) (words_of line.now)) }
 {
     if !are_visible(line) {
         return Ok(None);

@@ -10,10 +10,10 @@ ghost use Rattle.cif_stim.specs.StimulusView.{line_seen};
 ghost use Rattle.cif_stim.specs.Names.{IsTable, place_named, port_name};
 ghost use Rattle.cif_stim.specs.Cursor.{IsMapOf, IsAt, Passes, Stops, target_of, is_later_line, setters_after, cycle_of};
 
-use crate::line::{Held, Pair, StimLine};
+use crate::line::{Pair, StimLine};
 use crate::names::NameTable;
 use crate::stimulus::Stimulus;
-use crate::walk::{set_pair, set_words};
+use crate::walk::set_pair;
 use cif_bits::NoMemory;
 use cif_cells::Netlist;
 use cif_defs::Wire;
@@ -188,13 +188,6 @@ impl Inputs {
         })
     }
 
-    /// The cycle, counted from 0.
-    pub fn cycle(&self) -> u64
-        ensures { result ≡ cycle_of self.now }
-    {
-        self.cycle
-    }
-
     /// Goes on to the next cycle. A whole run passes each line once.
     pub fn advance(&mut self, _netlist: &Netlist, names: &InputMap, stimulus: &Stimulus)
         requires at { IsAt (netlist_of _netlist.now) stimulus.now names.now self.old }
@@ -232,23 +225,5 @@ impl Inputs {
     {
         let home = names.homes[port as usize];
         set_pair(stimulus.lines(), self.setters[home], index)
-    }
-    /// The word that an input port holds at the cycle.
-    pub fn held<'s>(
-        &self,
-        _netlist: &Netlist,
-        names: &InputMap,
-        stimulus: &'s Stimulus,
-        port: u32,
-    ) -> Held<'s>
-        requires at { IsAt (netlist_of _netlist.now) stimulus.now names.now self.now }
-        requires port { port < length (netlist_of _netlist.now).inputs }
-        ensures value { result.value.now
-            ≡ (input_at (netlist_of _netlist.now) stimulus.now (cycle_of self.now) port).value }
-        ensures taint { result.taint.now
-            ≡ (input_at (netlist_of _netlist.now) stimulus.now (cycle_of self.now) port).taint }
-    {
-        let home = names.homes[port as usize];
-        set_words(stimulus.lines(), self.setters[home])
     }
 }

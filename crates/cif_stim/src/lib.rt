@@ -20,6 +20,7 @@ mod stimulus;
 #[cfg(test)]
 mod tests;
 mod text;
+mod version;
 mod walk;
 mod write;
 #[cfg(test)]
@@ -27,7 +28,7 @@ mod write_tests;
 
 pub use fault::StimFault;
 pub use inputs::{InputMap, Inputs};
-pub use line::{Held, Pair, StimLine};
+pub use line::{Pair, StimLine};
 pub use read::read_stimulus;
 pub use stimulus::Stimulus;
 pub use write::write_stimulus;

@@ -12,42 +12,45 @@ pub struct Pair {
     pub taint: bool,
 }
 
-/// The word that an input port holds, lowest bit first, and its taint. Both are empty where the port isn't set yet.
-#[derive(Clone, Copy)]
-pub struct Held<'a> {
-    /// The word.
-    pub value: &'a [bool],
-    /// Which of its bits are tainted.
-    pub taint: &'a [bool],
-}
-
 /// A line of a stimulus after the line of the number of cycles. A word and its taint have the same width.
 #[derive(Drop)]
 pub enum StimLine {
     /// The word with which a register starts.
     Reg {
+        /// The register's name.
         cell: Name,
+        /// The word, as wide as the register.
         value: Bits,
+        /// Which bits of the word are tainted.
         taint: Bits,
     },
-    /// The word with which a memory starts at an address, which counts from the memory's offset on.
+    /// The word with which a memory starts at an address.
     Mem {
+        /// The memory's name.
         cell: Name,
+        /// The address of a row; that of the first row is the memory's offset.
         address: u64,
+        /// The word, as wide as a row.
         value: Bits,
+        /// Which bits of the word are tainted.
         taint: Bits,
     },
     /// A net whose taint is dropped on purpose.
     Release {
+        /// The name by which the net is released.
         name: Name,
+        /// What that name stands for in the netlist: a wire of 0s, 1s and net bits, lowest first.
         wire: Wire,
     },
     /// The cycle, counted from 0, of the sets that follow.
     Cycle(u64),
     /// The word that an input port holds from that cycle on, until it is set again.
     Set {
+        /// The port's name.
         port: Name,
+        /// The word, as wide as the port.
         value: Bits,
+        /// Which bits of the word are tainted.
         taint: Bits,
     },
 }

@@ -7,7 +7,7 @@ ghost use Rattle.cif_defs.specs.Accepted.{netlist_of};
 ghost use Rattle.cif_defs.specs.Cells.{Cell as CellData, width as width_of};
 ghost use Rattle.cif_defs.specs.Kinds.{is_register as is_register_role, is_memory as is_memory_role};
 ghost use Rattle.cif_defs.specs.declared.nets.Wire.{Wire as WireData};
-ghost use Rattle.cif_stim.specs.Fitting.{is_clock_source as is_clock_src, settable, register_named, memory_named};
+ghost use Rattle.cif_stim.specs.Fitting.{is_clock_source as is_clock_src, with_role, other_than_clock, settable, register_named, memory_named};
 ghost use Rattle.cif_stim.specs.Names.{IsTable, IsDirectory, place_named, place_among, port_name, cell_name};
 
 use cif_cells::table::role;
@@ -45,7 +45,7 @@ impl NameTable {
     }
 
     /// The table of some cells.
-    pub fn of_cells(alloc: Global, cells: &[Cell]) -> Result<NameTable, AllocError>
+    fn of_cells(alloc: Global, cells: &[Cell]) -> Result<NameTable, AllocError>
         ensures { IfOk result (λ t. IsTable cell_name cells.now t) }
     {
         let mut places = BTreeMap::new(alloc);
@@ -80,7 +80,7 @@ fn is_clock_source(netlist: &Netlist, source: Src) -> bool
 }
 
 /// Whether a port is the clock's.
-pub fn is_clock(netlist: &Netlist, port: &Wire) -> bool
+fn is_clock(netlist: &Netlist, port: &Wire) -> bool
     ensures { result ≡ list_any (is_clock_src (netlist_of netlist.now)) port.now.bits }
 {
     port.items()
@@ -89,7 +89,7 @@ pub fn is_clock(netlist: &Netlist, port: &Wire) -> bool
 }
 
 /// Whether a role is that of a register.
-pub fn is_register(role: Role) -> bool
+fn is_register(role: Role) -> bool
     ensures { result ≡ is_register_role role }
 {
     match role {
@@ -99,7 +99,7 @@ pub fn is_register(role: Role) -> bool
 }
 
 /// Whether a role is that of a memory.
-pub fn is_memory(role: Role) -> bool
+fn is_memory(role: Role) -> bool
     ensures { result ≡ is_memory_role role }
 {
     match role {
@@ -107,6 +107,54 @@ pub fn is_memory(role: Role) -> bool
         Role::PlainRegister | Role::ResetRegister | Role::Combinational | Role::CarriedOver => {
             false
         }
+    }
+}
+
+/// A cell, where it is a register.
+pub fn where_register(cell: Option<&Cell>) -> Option<&Cell>
+    ensures { option_copied result ≡ with_role is_register_role (option_copied cell.entry) }
+{
+    match cell {
+        Some(cell) => {
+            if is_register(role(cell.kind())) {
+                Some(cell)
+            } else {
+                None
+            }
+        }
+        None => None,
+    }
+}
+
+/// A cell, where it is a memory.
+pub fn where_memory(cell: Option<&Cell>) -> Option<&Cell>
+    ensures { option_copied result ≡ with_role is_memory_role (option_copied cell.entry) }
+{
+    match cell {
+        Some(cell) => {
+            if is_memory(role(cell.kind())) {
+                Some(cell)
+            } else {
+                None
+            }
+        }
+        None => None,
+    }
+}
+
+/// A port, where it isn't the clock's.
+pub fn unless_clock<'a>(netlist: &Netlist, port: Option<&'a Wire>) -> Option<&'a Wire>
+    ensures { option_copied result ≡ other_than_clock (netlist_of netlist.now) (option_copied port.entry) }
+{
+    match port {
+        Some(port) => {
+            if is_clock(netlist, port) {
+                None
+            } else {
+                Some(port)
+            }
+        }
+        None => None,
     }
 }
 
@@ -156,16 +204,7 @@ impl Directory {
         ensures accepted { IsAccepted netlist.now }
     {
         let _raw = netlist.raw();
-        match self.cell(netlist, name) {
-            Some(cell) => {
-                if is_register(role(cell.kind())) {
-                    Some(cell)
-                } else {
-                    None
-                }
-            }
-            None => None,
-        }
+        where_register(self.cell(netlist, name))
     }
 
     /// The memory of a name; its words have no more than 4,096 bits.
@@ -176,16 +215,7 @@ impl Directory {
         ensures accepted { IsAccepted netlist.now }
     {
         let _raw = netlist.raw();
-        match self.cell(netlist, name) {
-            Some(cell) => {
-                if is_memory(role(cell.kind())) {
-                    Some(cell)
-                } else {
-                    None
-                }
-            }
-            None => None,
-        }
+        where_memory(self.cell(netlist, name))
     }
 
     /// The input port of a name, other than the clock; it has no more than 4,096 bits.
@@ -196,15 +226,6 @@ impl Directory {
         ensures accepted { IsAccepted netlist.now }
     {
         let _raw = netlist.raw();
-        match self.input(netlist, name) {
-            Some(port) => {
-                if is_clock(netlist, port) {
-                    None
-                } else {
-                    Some(port)
-                }
-            }
-            None => None,
-        }
+        unless_clock(netlist, self.input(netlist, name))
     }
 }

@@ -1,5 +1,5 @@
 // Reading a stimulus from its text.
-ghost use Rattle.std.specs.Prelude.{◌≡◌, ◌<◌, ◌≤◌, ◌+◌, ◌^◌, [], Ok, true, length, bytes_eq, codes, IfOk, IfErr};
+ghost use Rattle.std.specs.Prelude.{◌≡◌, ◌<◌, ◌≤◌, ◌+◌, ◌^◌, [], Ok, true, length, bytes_eq, codes, option_map, IfOk, IfErr};
 ghost use Rattle.cif_defs.specs.Text.{words_of, lines_of};
 ghost use Rattle.cif_defs.specs.declared.raw_module.Raw.{Raw as RawData};
 ghost use Rattle.cif_stim.specs.Fitting.{fits_of};
@@ -7,12 +7,14 @@ ghost use Rattle.cif_stim.specs.Names.{IsDirectory};
 ghost use Rattle.cif_stim.specs.Places.{is_cycle_count};
 ghost use Rattle.cif_stim.specs.Reading.{IsReading, IsFirst, IsHead};
 ghost use Rattle.cif_stim.specs.StimulusText.{numbered, lines_read, stimulus_read, version_said, cycles_said, version_read as version_read_of, cycles_read as cycles_read_of, ◌and_then◌};
+ghost use Rattle.cif_stim.specs.Versions.{version_number};
 
 use crate::fault::StimFault;
 use crate::names::Directory;
 use crate::reader::Reader;
 use crate::stimulus::Stimulus;
 use crate::text::{Line, first_word, next_line, only_word, read_number};
+use crate::version::Version;
 use cif_cells::Netlist;
 use std::alloc::Global;
 
@@ -21,7 +23,7 @@ const CYCLE_LIMIT: u64 = 1_000_000;
 /// What the first two lines say, and the text after them.
 #[derive(Clone, Copy)]
 struct Head<'a> {
-    version: u64,
+    version: Version,
     cycles: u64,
     // The number of the first line of the rest.
     number: u64,
@@ -56,9 +58,9 @@ fn is_second(word: &[u8]) -> bool
     word == b"2".as_slice()
 }
 
-/// The version that a line names, which is 1 or 2.
-fn version_of(line: &[u8]) -> Option<u64>
-    ensures { result ≡ version_said (words_of line.now) }
+/// The version that a line names.
+fn version_of(line: &[u8]) -> Option<Version>
+    ensures { option_map version_number result ≡ version_said (words_of line.now) }
 {
     let title = first_word(line)?;
     let version = only_word(title.rest)?;
@@ -66,10 +68,10 @@ fn version_of(line: &[u8]) -> Option<u64>
         return None;
     }
     if is_first(version) {
-        return Some(1);
+        return Some(Version::First);
     }
     if is_second(version) {
-        return Some(2);
+        return Some(Version::Second);
     }
     None
 }
@@ -88,9 +90,10 @@ fn count_of(line: &[u8]) -> Option<u64>
 }
 
 /// Reads the version.
-fn read_version(line: &Line<'_>) -> Result<u64, StimFault>
+fn read_version(line: &Line<'_>) -> Result<Version, StimFault>
     ensures ok { IfOk result (λ v. version_read_of
-        (record { number = line.now.number; words = words_of line.now.text.now }) ≡ Ok v) }
+        (record { number = line.now.number; words = words_of line.now.text.now })
+        ≡ Ok (version_number v)) }
     ensures err { IfErr result (IsFirst (version_read_of
         (record { number = line.now.number; words = words_of line.now.text.now }))) }
 {
@@ -154,11 +157,11 @@ fn read_lines<'a>(
     requires count { is_cycle_count head.now.cycles ≡ true }
     requires numbers { head.now.number + length head.now.rest.now < 2 ^ 64 }
     ensures lines { IfOk result (λ s. lines_read netlist.now
-        (record { version = head.now.version; cycles = head.now.cycles }) []
+        (record { version = version_number head.now.version; cycles = head.now.cycles }) []
         (numbered head.now.number (lines_of head.now.rest.now)) ≡ Ok s.lines) }
     ensures cycles { IfOk result (λ s. s.cycles ≡ head.now.cycles) }
     ensures err { IfErr result (IsFirst (lines_read netlist.now
-        (record { version = head.now.version; cycles = head.now.cycles }) []
+        (record { version = version_number head.now.version; cycles = head.now.cycles }) []
         (numbered head.now.number (lines_of head.now.rest.now)))) }
 {
     let mut reader = Reader::new(alloc, head.cycles)?;

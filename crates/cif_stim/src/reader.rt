@@ -9,6 +9,7 @@ ghost use Rattle.cif_stim.specs.Names.{IsDirectory};
 ghost use Rattle.cif_stim.specs.Places.{is_cycle_count, is_later as is_later_than};
 ghost use Rattle.cif_stim.specs.Reading.{IsReading, IsFirst, Takes};
 ghost use Rattle.cif_stim.specs.StimulusText.{if_said, line_read, found_bits};
+ghost use Rattle.cif_stim.specs.Versions.{version_number};
 
 use crate::fault::StimFault;
 use crate::fitting::has_address;
@@ -17,6 +18,7 @@ use crate::given::{NameSet, RowSet};
 use crate::names::Directory;
 use crate::stimulus::Stimulus;
 use crate::text::Line;
+use crate::version::Version;
 use cif_bits::NoMemory;
 use cif_cells::{Found, Netlist};
 use cif_defs::{Name, Param};
@@ -298,7 +300,7 @@ impl<'a> Reader<'a> {
         alloc: Global,
         netlist: &'a Netlist,
         directory: &Directory,
-        version: u64,
+        version: Version,
         line: &Line<'_>,
     ) -> Result<(), StimFault>
         requires directory { IsDirectory netlist.now directory.now }
@@ -306,12 +308,12 @@ impl<'a> Reader<'a> {
         ensures state { OnOk result (IsReading self.new) }
         ensures ok { OnOk result (Takes self.old.stimulus self.new.stimulus
             (line_read netlist.now
-            (record { version = version; cycles = self.old.stimulus.cycles })
+            (record { version = version_number version; cycles = self.old.stimulus.cycles })
             (reverse self.old.stimulus.lines)
             (record { number = line.now.number; words = words_of line.now.text.now }))) }
         ensures err { IfErr result (IsFirst
             (line_read netlist.now
-            (record { version = version; cycles = self.old.stimulus.cycles })
+            (record { version = version_number version; cycles = self.old.stimulus.cycles })
             (reverse self.old.stimulus.lines)
             (record { number = line.now.number; words = words_of line.now.text.now }))) }
     {

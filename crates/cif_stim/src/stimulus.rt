@@ -1,16 +1,15 @@
 // A stimulus.
-ghost use Rattle.std.specs.Prelude.{◌≡◌, ◌<◌, ◌++◌, ◌∷◌, [], map, length, reverse, true, false, IfOk, OnOk, OnErr};
-ghost use Rattle.std.specs.List.{list_any};
+ghost use Rattle.std.specs.Prelude.{◌≡◌, ◌<◌, ◌++◌, ◌∷◌, [], map, length, true, false, IfOk, OnOk, OnErr};
 ghost use Rattle.cif_defs.specs.Words.{bit};
 ghost use Rattle.cif_defs.specs.Accepted.{netlist_of};
-ghost use Rattle.cif_defs.specs.Stimulus.{input_at, held_by, unset, start_at, is_released as is_released_by, reg_line, mem_line, release_line, cycle_line, set_line};
+ghost use Rattle.cif_defs.specs.Stimulus.{input_at, start_at, is_released as is_released_by, reg_line, mem_line, release_line, cycle_line, set_line};
 ghost use Rattle.cif_stim.specs.StimulusView.{line_seen, tainted, Adds};
-ghost use Rattle.cif_stim.specs.Fitting.{fits_of, is_release_of};
-ghost use Rattle.cif_stim.specs.Places.{IsOrdered, is_cycle_count, may_follow, is_written};
+ghost use Rattle.cif_stim.specs.Fitting.{fits_of, is_name_released};
+ghost use Rattle.cif_stim.specs.Places.{IsOrdered, is_cycle_count, may_add, is_written};
 
 use crate::fitting::lines_fit;
-use crate::line::{Held, Pair, StimLine};
-use crate::walk::{are_released, last_set, set_pair, set_words, started_pair, stores};
+use crate::line::{Pair, StimLine};
+use crate::walk::{are_released, last_set, set_pair, started_pair, stores};
 use cif_bits::{Bits, NoMemory};
 use cif_cells::Netlist;
 use cif_defs::{Name, NetBit, Wire};
@@ -85,15 +84,6 @@ impl Stimulus {
         set_pair(&self.lines, setter, index)
     }
 
-    /// The word that the input port of a name holds at a cycle.
-    pub fn held(&self, name: &[u8], cycle: u64) -> Held<'_>
-        ensures value { result.value.now ≡ (held_by self.now.lines name.now cycle unset).value }
-        ensures taint { result.taint.now ≡ (held_by self.now.lines name.now cycle unset).taint }
-    {
-        let setter = last_set(&self.lines, name, cycle);
-        set_words(&self.lines, setter)
-    }
-
     /// What bit `index` of the word of a register or a memory starts with; a bit past the word is 0.
     pub fn start(&self, netlist: &Netlist, cell: u32, index: u64) -> Pair
         requires { cell < length (netlist_of netlist.now).cells }
@@ -159,8 +149,7 @@ impl Stimulus {
         value: Bits,
         taint: Bits,
     ) -> Result<(), NoMemory>
-        requires place { may_follow self.old.cycles (reverse self.old.lines)
-            (reg_line cell (tainted value taint)) ≡ true }
+        requires place { may_add self.old (reg_line cell (tainted value taint)) ≡ true }
         requires written { is_written (reg_line cell (tainted value taint)) ≡ true }
         ensures ok { OnOk result (Adds self.old self.new (reg_line cell (tainted value taint))) }
         ensures err { OnErr result (self.new ≡ self.old) }
@@ -179,8 +168,7 @@ impl Stimulus {
         value: Bits,
         taint: Bits,
     ) -> Result<(), NoMemory>
-        requires place { may_follow self.old.cycles (reverse self.old.lines)
-            (mem_line cell address (tainted value taint)) ≡ true }
+        requires place { may_add self.old (mem_line cell address (tainted value taint)) ≡ true }
         requires written { is_written (mem_line cell address (tainted value taint)) ≡ true }
         ensures ok { OnOk result
             (Adds self.old self.new (mem_line cell address (tainted value taint))) }
@@ -198,10 +186,9 @@ impl Stimulus {
 
     /// Adds the release of a net by a name that wasn't released before.
     pub fn push_release(&mut self, alloc: Global, name: Name, wire: &Wire) -> Result<(), NoMemory>
-        requires place { may_follow self.old.cycles (reverse self.old.lines)
-            (release_line name wire.now.bits) ≡ true }
+        requires place { may_add self.old (release_line name wire.now.bits) ≡ true }
         requires written { is_written (release_line name wire.now.bits) ≡ true }
-        requires fresh { list_any (is_release_of name) (reverse self.old.lines) ≡ false }
+        requires fresh { is_name_released self.old.lines name ≡ false }
         ensures ok { OnOk result (Adds self.old self.new (release_line name wire.now.bits)) }
         ensures err { OnErr result (self.new ≡ self.old) }
     {
@@ -212,7 +199,7 @@ impl Stimulus {
 
     /// Adds the cycle, counted from 0, of the sets that follow.
     pub fn push_cycle(&mut self, _alloc: Global, cycle: u64) -> Result<(), NoMemory>
-        requires { may_follow self.old.cycles (reverse self.old.lines) (cycle_line cycle) ≡ true }
+        requires { may_add self.old (cycle_line cycle) ≡ true }
         ensures ok { OnOk result (Adds self.old self.new (cycle_line cycle)) }
         ensures err { OnErr result (self.new ≡ self.old) }
     {
@@ -228,8 +215,7 @@ impl Stimulus {
         value: Bits,
         taint: Bits,
     ) -> Result<(), NoMemory>
-        requires place { may_follow self.old.cycles (reverse self.old.lines)
-            (set_line port (tainted value taint)) ≡ true }
+        requires place { may_add self.old (set_line port (tainted value taint)) ≡ true }
         requires written { is_written (set_line port (tainted value taint)) ≡ true }
         ensures ok { OnOk result (Adds self.old self.new (set_line port (tainted value taint))) }
         ensures err { OnErr result (self.new ≡ self.old) }

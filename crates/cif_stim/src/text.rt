@@ -71,7 +71,7 @@ fn is_remark(line: &[u8]) -> bool
 }
 
 /// Whether a line is passed over, though counted.
-pub fn is_skipped(line: &[u8]) -> bool
+fn is_skipped(line: &[u8]) -> bool
     ensures { result ≡ is_skipped_line line.now }
 {
     is_blank(line) || is_remark(line)
@@ -213,7 +213,7 @@ struct FirstByte<'a> {
 }
 
 /// The value of a hexadecimal digit.
-fn hex_value(digit: u8) -> Option<u8>
+fn hexadecimal_value(digit: u8) -> Option<u8>
     ensures value { result ≡ hex_number digit }
     ensures limit { IfSome result (λ d. d < 16) }
 {
@@ -225,23 +225,26 @@ fn hex_value(digit: u8) -> Option<u8>
     }
 }
 
+/// Whether a byte of a name stands for itself.
+pub fn is_plain(byte: u8) -> bool
+    ensures { result ≡ (is_visible_byte byte && not (byte == percent)) }
+{
+    is_visible(byte) && byte != PERCENT
+}
+
 /// A byte that stands for itself.
 fn plain_byte(byte: u8) -> Option<u8>
     ensures { result ≡ plain_byte_of byte }
 {
-    if is_visible(byte) && byte != PERCENT {
-        Some(byte)
-    } else {
-        None
-    }
+    if is_plain(byte) { Some(byte) } else { None }
 }
 
 /// The byte that two hexadecimal digits code, which must be one that doesn't stand for itself.
 fn coded_byte(high: u8, low: u8) -> Option<u8>
     ensures { result ≡ byte_of_digits high low }
 {
-    let high = hex_value(high)?;
-    let low = hex_value(low)?;
+    let high = hexadecimal_value(high)?;
+    let low = hexadecimal_value(low)?;
     let byte = high * 16 + low;
     if plain_byte(byte).is_none() {
         Some(byte)

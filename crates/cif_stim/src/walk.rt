@@ -7,7 +7,7 @@ ghost use Rattle.std.specs.List.{list_any};
 ghost use Rattle.cif_stim.specs.StimulusView.{line_seen};
 ghost use Rattle.cif_stim.specs.Held.{word_set_at, Starts, releases_bit};
 
-use crate::line::{Held, Pair, StimLine};
+use crate::line::{Pair, StimLine};
 use cif_bits::Bits;
 use cif_cells::table::role;
 use cif_cells::{Cell, Param};
@@ -45,26 +45,6 @@ pub fn last_set(lines: &[StimLine], port: &[u8], cycle: u64) -> Option<usize>
         }
     }
     setter
-}
-
-/// The word that a line sets and its taint; none where there is no such line.
-pub fn set_words(lines: &[StimLine], setter: Option<usize>) -> Held<'_>
-    ensures value { result.value.now ≡ (word_set_at lines.now setter).value }
-    ensures taint { result.taint.now ≡ (word_set_at lines.now setter).taint }
-{
-    if let Some(number) = setter
-        && number < lines.len()
-        && let StimLine::Set { value, taint, .. } = &lines[number]
-    {
-        return Held {
-            value: value.bits(),
-            taint: taint.bits(),
-        };
-    }
-    Held {
-        value: &[],
-        taint: &[],
-    }
 }
 
 /// A bit of the word that a line sets, or 0 where there is none.

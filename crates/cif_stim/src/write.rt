@@ -9,9 +9,12 @@ ghost use Rattle.cif_stim.specs.Fitting.{fits_of};
 ghost use Rattle.cif_stim.specs.Ranges.{are_bytes, is_in_range};
 ghost use Rattle.cif_stim.specs.StimulusText.{line_text, tainted_text, is_release, stimulus_text, stimulus_read};
 ghost use Rattle.cif_stim.specs.StimulusView.{line_seen, tainted};
+ghost use Rattle.cif_stim.specs.Versions.{version_number};
 
 use crate::line::StimLine;
 use crate::stimulus::Stimulus;
+use crate::text::is_plain;
+use crate::version::Version;
 use cif_bits::{Bits, NoMemory};
 use std::alloc::Global;
 
@@ -33,7 +36,7 @@ fn hexadecimal_digit(digit: u8) -> u8
 fn push_byte(text: &mut Vec<u8>, byte: u8) -> Result<(), NoMemory>
     ensures { OnOk result (text.new.items ≡ text.old.items ++ coded_byte byte) }
 {
-    if matches!(byte, 0x21..=0x7E) && byte != b'%' {
+    if is_plain(byte) {
         text.push(byte)?;
     } else {
         text.push(b'%')?;
@@ -205,21 +208,26 @@ fn some_releases(lines: &[StimLine]) -> bool
     lines.iter().any(|line| releases(line))
 }
 
-/// The version of the text that lines can be written in: 2 where something is released, else 1.
-fn version(lines: &[StimLine]) -> u64
-    ensures { result ≡ (if list_any is_release (map line_seen lines.now) then 2 else 1) }
+/// The version of the text that lines can be written in: the second where something is released, else the first.
+fn version_for(lines: &[StimLine]) -> Version
+    ensures { version_number result
+        ≡ (if list_any is_release (map line_seen lines.now) then 2 else 1) }
 {
-    if some_releases(lines) { 2 } else { 1 }
+    if some_releases(lines) {
+        Version::Second
+    } else {
+        Version::First
+    }
 }
 
 /// The first two lines.
-fn head(alloc: Global, version: u64, cycles: u64) -> Result<Vec<u8>, NoMemory>
+fn head(alloc: Global, version: Version, cycles: u64) -> Result<Vec<u8>, NoMemory>
     ensures { IfOk result (λ text. text.items
-        ≡ codes "cellift-stimulus " ++ decimal version ++ line_end ∷ codes "cycles "
+        ≡ codes "cellift-stimulus " ++ decimal (version_number version) ++ line_end ∷ codes "cycles "
         ++ decimal cycles ++ line_end ∷ []) }
 {
     let mut text = Vec::from_slice(alloc, b"cellift-stimulus ")?;
-    push_number(alloc, &mut text, version)?;
+    push_number(alloc, &mut text, version.number())?;
     text.extend_from_slice(b"\ncycles ")?;
     push_number(alloc, &mut text, cycles)?;
     text.push(b'\n')?;
@@ -235,7 +243,7 @@ pub fn write_stimulus(alloc: Global, stimulus: &Stimulus) -> Result<Vec<u8>, NoM
         → stimulus_read raw t.items ≡ Ok stimulus.now) }
 {
     let lines = stimulus.lines();
-    let mut text = head(alloc, version(lines), stimulus.cycles())?;
+    let mut text = head(alloc, version_for(lines), stimulus.cycles())?;
     push_lines(alloc, &mut text, lines)?;
     Ok(text)
 }

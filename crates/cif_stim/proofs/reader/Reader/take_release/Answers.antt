@@ -2,9 +2,11 @@ use Rattle.std.proofs.Common.{sym, ap, subst, ◌∙◌, refl, reverse, bytes_eq
 use Rattle.cif_defs.specs.Stimulus.{release_line}
 use Rattle.cif_defs.specs.declared.nets.Src.{Src}
 use Rattle.cif_cells.specs.Finding.{found_of}
+use Rattle.cif_stim.specs.Fitting.{is_release_of}
 use Rattle.cif_stim.specs.Given.{has}
 use Rattle.cif_stim.specs.StimulusText.{found_bits}
 use Rattle.cif_stim.specs.StimulusView.{Adds}
+use Rattle.cif_stim.proofs.Fits.{any_reversed}
 use Rattle.cif_stim.proofs.Narrow.{wire_name}
 use Rattle.cif_stim.proofs.Steps.{given_again, good, read_release, wire_found, may_start, is_given}
 use Rattle.cif_stim.proofs.reader.Reader.take_release.Goals as goal
@@ -24,7 +26,8 @@ push_release-requires-clause-fresh c =
     let raw = c.args.netlist.now in
     let found = c.in-Wire.ensures ∙ ap (found_of raw) c.items.ensures in
     let key = c.items-2.ensures ∙ c.name-2.ensures ∙ wire_name raw c.args.name c.in-Wire.wire.now found in
-    c.requires.state.given_names c.args.name ∙ ap (has c.args.self.now.released) (sym key) ∙ is_given _ _ _ c.in_ok-add.ensures.is_new c.if-not-branch.false
+    sym (any_reversed (is_release_of c.args.name) c.args.self.now.stimulus.lines)
+    ∙ c.requires.state.given_names c.args.name ∙ ap (has c.args.self.now.released) (sym key) ∙ is_given _ _ _ c.in_ok-add.ensures.is_new c.if-not-branch.false
 
 pub returns-clause-state : goal.returns-clause-state
 returns-clause-state c =
