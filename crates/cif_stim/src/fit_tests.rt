@@ -17,6 +17,19 @@ fn fits(rt: &(impl Abort + AllocGlobal), lines: &str, other: &Netlist) -> Result
     Ok(stimulus.fits(other))
 }
 
+/// Each stimulus of some lines fits another netlist, or none does.
+fn assert_fit(
+    rt: &(impl Abort + AllocGlobal),
+    other: &Netlist,
+    cases: &[&str],
+    wanted: bool,
+) -> Result<(), Fail> {
+    for lines in cases {
+        assert_eq!(rt; fits(rt, lines, other)?, wanted, "{lines}");
+    }
+    Ok(())
+}
+
 /// Only lines that have nothing to do with what differs fit.
 fn assert_differ(
     rt: &(impl Abort + AllocGlobal),
@@ -24,13 +37,8 @@ fn assert_differ(
     fitting: &[&str],
     others: &[&str],
 ) -> Result<(), Fail> {
-    for lines in fitting {
-        assert!(rt; fits(rt, lines, other)?, "{lines}");
-    }
-    for lines in others {
-        assert!(rt; !fits(rt, lines, other)?, "{lines}");
-    }
-    Ok(())
+    assert_fit(rt, other, fitting, true)?;
+    assert_fit(rt, other, others, false)
 }
 
 #[test]

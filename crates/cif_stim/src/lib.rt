@@ -7,6 +7,8 @@ mod fit_tests;
 mod fitting;
 mod form;
 mod given;
+#[cfg(test)]
+mod given_tests;
 mod inputs;
 mod line;
 mod names;

@@ -8,8 +8,9 @@ use cif_defs::{
 use std::alloc::{AllocError, Global};
 use std::process::Abort;
 
-fn name(alloc: Global, text: &[u8]) -> Result<Name, AllocError> {
-    Ok(Listed::of(Vec::from_slice(alloc, text)?))
+/// A name of these bytes.
+fn name(alloc: Global, bytes: &[u8]) -> Result<Name, AllocError> {
+    Ok(Listed::of(Vec::from_slice(alloc, bytes)?))
 }
 
 /// A bit, as one byte says it: `0`, `1`, a letter from `a` on for a net number from 2 on, or else no value.
@@ -22,6 +23,7 @@ fn bit_of(byte: u8) -> RawBit {
     }
 }
 
+/// Bits, a byte each, the lowest first.
 fn bits(alloc: Global, text: &str) -> Result<Vec<RawBit>, AllocError> {
     let mut bits = Vec::new(alloc);
     for byte in text.bytes() {
@@ -30,6 +32,7 @@ fn bits(alloc: Global, text: &str) -> Result<Vec<RawBit>, AllocError> {
     Ok(bits)
 }
 
+/// A port of a name and of bits.
 fn port(
     alloc: Global,
     text: &str,
@@ -43,6 +46,7 @@ fn port(
     })
 }
 
+/// Parameters by their names, each a number.
 fn parameters(alloc: Global, rows: &[(&str, i128)]) -> Result<Vec<RawParam>, AllocError> {
     let mut parameters = Vec::new(alloc);
     for (text, number) in rows {
@@ -54,6 +58,7 @@ fn parameters(alloc: Global, rows: &[(&str, i128)]) -> Result<Vec<RawParam>, All
     Ok(parameters)
 }
 
+/// Connections by the names of a cell's ports, each with its bits.
 fn connections(alloc: Global, rows: &[(&str, &str)]) -> Result<Vec<Connection>, AllocError> {
     let mut connections = Vec::new(alloc);
     for (text, read) in rows {
@@ -62,15 +67,16 @@ fn connections(alloc: Global, rows: &[(&str, &str)]) -> Result<Vec<Connection>, 
     Ok(connections)
 }
 
+/// A cell of a name and a kind, with its parameters and its connections.
 fn cell(
     alloc: Global,
-    text: &str,
+    bytes: &[u8],
     kind: &str,
     numbers: &[(&str, i128)],
     reads: &[(&str, &str)],
 ) -> Result<RawCell, AllocError> {
     Ok(RawCell {
-        name: name(alloc, text.as_bytes())?,
+        name: name(alloc, bytes)?,
         hide: false,
         kind: name(alloc, kind.as_bytes())?,
         parameters: Listed::of(parameters(alloc, numbers)?),
@@ -79,15 +85,17 @@ fn cell(
     })
 }
 
-fn netname(alloc: Global, text: &[u8], read: &str) -> Result<RawName, AllocError> {
+/// A name for bits.
+fn netname(alloc: Global, bytes: &[u8], read: &str) -> Result<RawName, AllocError> {
     Ok(RawName {
-        name: name(alloc, text)?,
+        name: name(alloc, bytes)?,
         hide: false,
         bits: Listed::of(bits(alloc, read)?),
         attributes: Listed::of(Vec::new(alloc)),
     })
 }
 
+/// A module of ports, cells and names.
 fn module(
     alloc: Global,
     ports: Vec<RawPort>,
@@ -115,7 +123,7 @@ fn adder(alloc: Global) -> Result<RawCell, AllocError> {
         ("Y_WIDTH", 4),
     ];
     let reads = [("A", "defg"), ("B", "1"), ("Y", "hijk")];
-    cell(alloc, "$add$c.v:7$2", "$add", &numbers, &reads)
+    cell(alloc, b"$add$c.v:7$2", "$add", &numbers, &reads)
 }
 
 /// The register of the counter, on the clock `a`, with the reset `b` and the enable `c`.
@@ -134,7 +142,7 @@ fn counted(alloc: Global) -> Result<RawCell, AllocError> {
         ("Q", "defg"),
         ("SRST", "b"),
     ];
-    cell(alloc, "$procdff$4", "$sdffe", &numbers, &reads)
+    cell(alloc, b"$procdff$4", "$sdffe", &numbers, &reads)
 }
 
 /// A counter of four bits, with the inputs `clk`, `en` and `rst` and the output `q`.
@@ -150,6 +158,7 @@ fn counter_module(alloc: Global) -> Result<Raw, AllocError> {
     module(alloc, ports, cells, Vec::new(alloc))
 }
 
+/// The counter as a netlist.
 pub fn counter(rt: &(impl Abort + AllocGlobal)) -> Netlist {
     let module = counter_module(rt.alloc()).expect(rt, "memory");
     Netlist::build(rt.alloc(), module).expect(rt, "the counter is refused")
@@ -175,8 +184,8 @@ pub const PLAIN: Sizes = Sizes {
     wire: "d0",
 };
 
-/// A memory that is only read, at the address `bc`.
-fn memory(alloc: Global, offset: u8) -> Result<RawCell, AllocError> {
+/// A memory that is only read, at the address `bc`. It has three rows of two bits.
+fn memory(alloc: Global, bytes: &[u8], offset: u8) -> Result<RawCell, AllocError> {
     let numbers = [
         ("ABITS", 3),
         ("INIT", 0),
@@ -199,28 +208,16 @@ fn memory(alloc: Global, offset: u8) -> Result<RawCell, AllocError> {
         ("WR_DATA", ""),
         ("WR_EN", ""),
     ];
-    cell(alloc, "m", "$mem_v2", &numbers, &reads)
+    cell(alloc, bytes, "$mem_v2", &numbers, &reads)
 }
 
-/// The register `r`, of the bits `de` or of `d` alone.
-fn register(alloc: Global, width: u8) -> Result<RawCell, AllocError> {
+/// A register of the bits `de`, or of `d` alone, that takes `bc` or `b`.
+fn register(alloc: Global, bytes: &[u8], width: u8) -> Result<RawCell, AllocError> {
     let numbers = [("CLK_POLARITY", 1), ("WIDTH", i128::from(width))];
-    if width == 1 {
-        return cell(
-            alloc,
-            "r",
-            "$dff",
-            &numbers,
-            &[("CLK", "a"), ("D", "b"), ("Q", "d")],
-        );
-    }
-    cell(
-        alloc,
-        "r",
-        "$dff",
-        &numbers,
-        &[("CLK", "a"), ("D", "bc"), ("Q", "de")],
-    )
+    let one = [("CLK", "a"), ("D", "b"), ("Q", "d")];
+    let two = [("CLK", "a"), ("D", "bc"), ("Q", "de")];
+    let reads = if width == 1 { one } else { two };
+    cell(alloc, bytes, "$dff", &numbers, &reads)
 }
 
 /// The inputs `c`, the clock, `d` and `e`, and the output `q`; the cells `m`, `n`, which says nothing, and `r`; the names
@@ -233,9 +230,9 @@ fn sized_module(alloc: Global, sizes: Sizes) -> Result<Raw, AllocError> {
     ports.push(port(alloc, "e", Direction::Input, "f")?)?;
     ports.push(port(alloc, "q", Direction::Output, "dg")?)?;
     let mut cells = Vec::new(alloc);
-    cells.push(memory(alloc, sizes.offset)?)?;
-    cells.push(cell(alloc, "n", "$scopeinfo", &[], &[])?)?;
-    cells.push(register(alloc, sizes.width)?)?;
+    cells.push(memory(alloc, b"m", sizes.offset)?)?;
+    cells.push(cell(alloc, b"n", "$scopeinfo", &[], &[])?)?;
+    cells.push(register(alloc, b"r", sizes.width)?)?;
     let mut names = Vec::new(alloc);
     names.push(netname(alloc, b"a b%", "d")?)?;
     names.push(netname(alloc, b"w", sizes.wire)?)?;
@@ -244,7 +241,30 @@ fn sized_module(alloc: Global, sizes: Sizes) -> Result<Raw, AllocError> {
     module(alloc, ports, cells, names)
 }
 
+/// The module of such sizes as a netlist.
 pub fn sized(rt: &(impl Abort + AllocGlobal), sizes: Sizes) -> Netlist {
     let module = sized_module(rt.alloc(), sizes).expect(rt, "memory");
+    Netlist::build(rt.alloc(), module).expect(rt, "the module is refused")
+}
+
+// ---- names that need a coding
+
+/// The clock `c` and the input port `d %` of two bits; the memory `m%`, whose rows begin at 4, and the register of an `r`,
+/// a byte 0 and a byte 255, of two bits; and the name `w `, of the register's lower bit.
+fn coded_module(alloc: Global) -> Result<Raw, AllocError> {
+    let mut ports = Vec::new(alloc);
+    ports.push(port(alloc, "c", Direction::Input, "a")?)?;
+    ports.push(port(alloc, "d %", Direction::Input, "bc")?)?;
+    let mut cells = Vec::new(alloc);
+    cells.push(memory(alloc, b"m%", 4)?)?;
+    cells.push(register(alloc, b"r\x00\xFF", 2)?)?;
+    let mut names = Vec::new(alloc);
+    names.push(netname(alloc, b"w ", "d")?)?;
+    module(alloc, ports, cells, names)
+}
+
+/// The module with names that need a coding as a netlist.
+pub fn coded(rt: &(impl Abort + AllocGlobal)) -> Netlist {
+    let module = coded_module(rt.alloc()).expect(rt, "memory");
     Netlist::build(rt.alloc(), module).expect(rt, "the module is refused")
 }
