@@ -1,13 +1,19 @@
 -- What commands leave, by the way in which they end.
 use Rattle.std.specs.Prelude.{ℕ, ◌≤◌, ◌≡◌, List, [], ◌++◌, Option, Some, Result, Ok, Err, OnOk, IfErr, refl}
 use Rattle.std.proofs.Common.{arith, ap, sym, subst, inl, inr, ◌∙◌}
-use Rattle.cif_io.specs.Outside.{Files, Appends, AppendsPrefix}
+use Rattle.std.proofs.Math.Option.{some-injective}
+use Rattle.std.proofs.lemmas.List.{append_cancel_left}
+use Rattle.cif_io.specs.Outside.{Files, Appends, AppendsPrefix, taken_with}
 use Rattle.cif_io.proofs.OutsideLaws.{Appends-nothing}
-use Rattle.cif_defs.specs.Netlist.{Netlist}
-use Rattle.cif_defs.specs.Stimulus.{Stimulus}
+use Rattle.cif_defs.specs.Netlist.{Netlist, IsWired}
+use Rattle.cif_defs.specs.Stimulus.{Stimulus, TaintedWord}
 use Rattle.cif_defs.specs.Accepted.{netlist_of}
 use Rattle.cif_defs.specs.Loop.{IsLevelled}
-use Rattle.cif_defs.specs.EvalText.{eval_text}
+use Rattle.cif_defs.specs.EvalText.{eval_text, cycle_text}
+use Rattle.cif_defs.specs.Run.{value, src_word}
+use Rattle.cif_defs.specs.TaintRun.{taint, taint_word}
+use Rattle.cif_defs.specs.declared.nets.Wire.{Wire}
+use Rattle.cif_defs.proofs.Agree.{src_complete}
 use Rattle.cif_defs.specs.Messages.{read_fault_line}
 use Rattle.cif_defs.specs.declared.raw_module.Raw.{Raw}
 use Rattle.cif_defs.proofs.Noninterference.{noninterference}
@@ -15,9 +21,11 @@ use Rattle.cif_cells.proofs.Wired.{wired}
 use Rattle.cif_json.specs.Answers.{ComesTo}
 use Rattle.cif_desk.specs.Commands.{Command, check, eval, net_word}
 use Rattle.cif_desk.specs.Refusals.{Refusal}
-use Rattle.cif_desk.specs.Permitted.{HoldsNetlist, RefusesNetlist, NetlistTold, NetlistRefused, StimulusTold, StimulusRefused, check_text, text, netlist_refused, checked, stimulus_refused, evaluated, IsAllowed, IsDue, netlist_word, stimulus_word}
-use Rattle.cif_desk.specs.Ends.{WritesOut, EvaluatesApart}
+use Rattle.cif_desk.specs.Permitted.{Permits, HoldsNetlist, HoldsStimulus, RefusesNetlist, NetlistTold, NetlistRefused, StimulusTold, StimulusRefused, check_text, text, netlist_refused, checked, stimulus_refused, evaluated, IsAllowed, IsDue, netlist_word, stimulus_word}
+use Rattle.cif_desk.specs.Ends.{WritesOut, WritesApart}
+use Rattle.cif_desk.specs.Showing.{ShowsApart, text_showing}
 use Rattle.cif_desk.specs.Stops.{StopsAtFile, StopsWriting, HasCause, end_status, stop_status}
+use Rattle.cif_desk.proofs.ShownLaws.{length-src_word, length-taint_word}
 use Rattle.cif_seq.specs.Cases.{CaseOf, net_of}
 use Rattle.cif_desk.specs.declared.stop.Stop.{Stop}
 use Rattle.cif_desk.specs.declared.stop.Stop.TheVariants.{Usage, Refused, Unread, Unwritten, NoMemory}
@@ -180,18 +188,63 @@ same_netlist files name a b h k =
     let P : List ℕ → Type 0 = λ bytes. ComesTo bytes (Ok a) in
     same_module k.bytes a b (subst P same h.passes.read) k.passes.read
 
-pub apart : (told : Option Files) (net stim : List ℕ) (raw : Raw) (order : List ℕ) → NetlistTold told net raw → IsLevelled (netlist_of raw) order → EvaluatesApart told (Some (eval net stim))
-apart told net stim raw order netlist levelled = λ files other file raw2 s t e h stimulus.
+same_stimulus : (files : Files) (name : List ℕ) (raw : Raw) (a b : Stimulus) → HoldsStimulus files name raw a → HoldsStimulus files name raw b → a ≡ b
+same_stimulus files name raw a b h k =
+    let first = h.held.told in
+    let second = k.held.told in
+    let same : h.bytes ≡ k.bytes = cc in
+    let read = h.read in
+    let again = k.read in
+    cc
+
+-- what is evaluated, as its text shows it
+frame_words : Netlist → Stimulus → ℕ → Wire → TaintedWord
+frame_words n s k w = record { value = src_word (value n s k) w.bits; taint = taint_word (taint n s k) w.bits }
+
+text_of_frames : (n : Netlist) (s : Stimulus) → eval_text n s ≡ text_showing n s.cycles (frame_words n s)
+unfolding eval_text cycle_text frame_words
+text_of_frames n s = refl
+
+-- a text of `eval` shows no more of tainted bits than it says
+shows_apart : (n : Netlist) (order : List ℕ) (s : Stimulus) (bytes : List ℕ) → IsWired n → IsLevelled n order → bytes ≡ eval_text n s → ShowsApart n s bytes
+unfolding frame_words
+shows_apart n order s bytes wired levelled e = record {
+  shown = frame_words n s;
+  is = e ∙ text_of_frames n s;
+  values_as_long = λ k w. length-src_word (value n s k) w.bits;
+  taints_as_long = λ k w. length-taint_word (taint n s k) w.bits;
+  same = λ u k w agrees. src_complete (value n s k) (value n u k) (taint n s k) w.bits (λ j b is clear. noninterference n order s u k wired levelled agrees b clear);
+}
+
+-- the text that an evaluation is allowed to write
+text_of_eval : (files : Files) (net stim bytes : List ℕ) (raw : Raw) (s : Stimulus) → HoldsNetlist files net raw → HoldsStimulus files stim raw s → Permits files (eval net stim) (text bytes) → bytes ≡ eval_text (netlist_of raw) s
+text_of_eval files net stim bytes raw s h k (evaluated other file raw2 s2 h2 k2) =
+    let same : raw2 ≡ raw = same_netlist files net raw2 raw h2 h in
+    let P : Raw → Type 0 = λ r. HoldsStimulus files stim r s2 in
+    let again : s2 ≡ s = same_stimulus files stim raw s2 s (subst P same k2) k in
+    ap (λ r. eval_text (netlist_of r) s2) same ∙ ap (eval_text (netlist_of raw)) again
+
+taken_with-Some : (before bytes : List ℕ) → taken_with (Some before) bytes ≡ Some (before ++ bytes)
+unfolding taken_with
+taken_with-Some before bytes = refl
+
+-- what a sink tells that it took is told once
+same_bytes : (old new : Option (List ℕ)) (before a b : List ℕ) → Appends old new a → old ≡ Some before → new ≡ Some (before ++ b) → a ≡ b
+same_bytes old new before a b h o n = append_cancel_left before a b (some-injective (before ++ a) (before ++ b) (sym (h.taken ∙ ap (λ t. taken_with t a) o ∙ taken_with-Some before a) ∙ n))
+
+-- an evaluation that ends well
+pub apart : {A : Type 0} (told : Option Files) (net stim : List ℕ) (raw : Raw) (order : List ℕ) (old new : Option (List ℕ)) (r : Result A Stop) → NetlistTold told net raw → IsLevelled (netlist_of raw) order → WritesOut told (Some (eval net stim)) (end_status r) old new
+    → OnOk r (WritesApart told (Some (eval net stim)) old new)
+apart told net stim raw order old new (Err e) netlist levelled w = tt
+apart told net stim raw order old new (Ok x) netlist levelled w = λ files other file raw2 s before bytes t e h k o n.
     let word : net ≡ other = cc in
-    let P : List ℕ → Type 0 = λ w. HoldsNetlist files w raw in
+    let words : eval net stim ≡ eval other file = cc in
+    let P : List ℕ → Type 0 = λ v. HoldsNetlist files v raw in
     let held : HoldsNetlist files other raw = subst P word (netlist.holds files t) in
     let same : raw ≡ raw2 = same_netlist files other raw raw2 held h in
     let Q : Raw → Type 0 = λ r. IsLevelled (netlist_of r) order in
-    record {
-      same = λ u k b agrees clear. noninterference (netlist_of raw2) order s u k (wired raw2 h.passes.accepted) (subst Q same levelled) agrees b clear;
-    }
-
--- a fact holds where a result is good
-pub on_ok_fact : {A E P : Type 0} (r : Result A E) → P → OnOk r P
-on_ok_fact (Ok x) h = h
-on_ok_fact (Err e) h = tt
+    let told_bytes : w.bytes ≡ bytes = same_bytes old new before w.bytes bytes w.appended o n in
+    let R : List ℕ → Type 0 = λ b. Permits files (eval net stim) (text b) in
+    let C : Command → Type 0 = λ c. Permits files c (text bytes) in
+    let permitted : Permits files (eval other file) (text bytes) = subst C words (subst R told_bytes (w.whole refl files t)) in
+    shows_apart (netlist_of raw2) order s bytes (wired raw2 h.passes.accepted) (subst Q same levelled) (text_of_eval files other file bytes raw2 s h k permitted)

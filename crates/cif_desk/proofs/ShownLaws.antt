@@ -24,7 +24,7 @@ use Rattle.cif_desk.specs.Shown.{AreInside}
 
 -- ---- words from bits that are read
 
-length-src_word : (v : ℕ → Bool) (ss : List Src) → length (src_word v ss) ≡ length ss
+pub length-src_word : (v : ℕ → Bool) (ss : List Src) → length (src_word v ss) ≡ length ss
 length-src_word v [] = refl
 length-src_word v (s ∷ ss) = ap suc (length-src_word v ss)
 
@@ -33,7 +33,7 @@ get_or-src_word v [] i d e h = absurd (omega arith)
 get_or-src_word v (s ∷ ss) zero d e h = refl
 get_or-src_word v (s ∷ ss) (suc i) d e h = get_or-src_word v ss i d e (omega arith)
 
-length-taint_word : (v : ℕ → Bool) (ss : List Src) → length (taint_word v ss) ≡ length ss
+pub length-taint_word : (v : ℕ → Bool) (ss : List Src) → length (taint_word v ss) ≡ length ss
 length-taint_word v [] = refl
 length-taint_word v (s ∷ ss) = ap suc (length-taint_word v ss)
 

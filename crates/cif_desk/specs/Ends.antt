@@ -1,18 +1,15 @@
 -- What a call leaves, by the status that it ends with: 0 the whole text, 1 usage, 2 a refusal, 3 a read fault, 4 a write
 -- fault, 5 want of memory.
-use Rattle.std.specs.Prelude.{ℕ, ◌≤◌, ◌≡◌, ◌⊎◌, false, List, [], ◌++◌, Option, Some, None, IsSome}
+use Rattle.std.specs.Prelude.{ℕ, ◌≤◌, ◌≡◌, ◌⊎◌, List, [], ◌++◌, Option, Some, None, IsSome}
 use Rattle.cif_io.specs.Outside.{Files, Appends}
 use Rattle.cif_defs.specs.Accepted.{netlist_of}
-use Rattle.cif_defs.specs.Netlist.{Netlist}
 use Rattle.cif_defs.specs.Stimulus.{Stimulus}
-use Rattle.cif_defs.specs.Run.{value}
-use Rattle.cif_defs.specs.TaintRun.{taint}
-use Rattle.cif_defs.specs.Agreement.{AgreesUpTo}
 use Rattle.cif_defs.specs.Messages.{usage_line, read_fault_line, write_fault_line, memory_line}
 use Rattle.cif_defs.specs.declared.raw_module.Raw.{Raw}
 use Rattle.cif_desk.specs.Commands.{Command, check, eval}
 use Rattle.cif_desk.specs.Refusals.{Refusal, line_of}
 use Rattle.cif_desk.specs.Permitted.{refused, text, IsAllowed, IsDue, HoldsNetlist, HoldsStimulus}
+use Rattle.cif_desk.specs.Showing.{ShowsApart}
 
 -- ---- out
 
@@ -55,15 +52,10 @@ pub record WritesErr (told : Option Files) (asked : Option Command) (failed : Li
   pub part : status ≡ 4 → (rest : List ℕ) × MayTell told asked failed (bytes ++ rest)
   pub memory : status ≡ 5 → bytes ≡ memory_line
 
--- ---- what a text of `eval` says
+-- ---- noninterference
 
--- every stimulus that agrees with s outside its taint up to a cycle gives each bit that is untainted in that cycle the
--- same value there
-pub record KeepsApart (n : Netlist) (s : Stimulus) : Type 0 where
-  pub same : (u : Stimulus) (k b : ℕ) → AgreesUpTo n k s u → taint n s k b ≡ false → value n u k b ≡ value n s k b
-
--- so it is for the netlist and the stimulus that are evaluated
-abbrev pub EvaluatesApart : Option Files → Option Command → Type 0
-EvaluatesApart told asked =
-    (files : Files) (net stim : List ℕ) (raw : Raw) (s : Stimulus) → told ≡ Some files → asked ≡ Some (eval net stim)
-    → HoldsNetlist files net raw → HoldsStimulus files stim raw s → KeepsApart (netlist_of raw) s
+-- what out took shows no more of tainted bits than it says, where it was an evaluation and store and out tell their content
+abbrev pub WritesApart : Option Files → Option Command → Option (List ℕ) → Option (List ℕ) → Type 0
+WritesApart told asked old new =
+    (files : Files) (net stim : List ℕ) (raw : Raw) (s : Stimulus) (before bytes : List ℕ) → told ≡ Some files → asked ≡ Some (eval net stim)
+    → HoldsNetlist files net raw → HoldsStimulus files stim raw s → old ≡ Some before → new ≡ Some (before ++ bytes) → ShowsApart (netlist_of raw) s bytes

@@ -6,3 +6,4 @@ pub mod Permitted
 pub mod Ends
 pub mod Stops
 pub mod Shown
+pub mod Showing

@@ -5,7 +5,7 @@ ghost use Rattle.cif_defs.specs.Accepted.{netlist_of};
 ghost use Rattle.cif_desk.specs.Commands.{check as checks, eval as evaluates};
 ghost use Rattle.cif_desk.specs.CommandView.{asked_by};
 ghost use Rattle.cif_desk.specs.Permitted.{check_text as text_of_check, IsDue};
-ghost use Rattle.cif_desk.specs.Ends.{WritesOut, WritesErr, EvaluatesApart};
+ghost use Rattle.cif_desk.specs.Ends.{WritesOut, WritesErr, WritesApart};
 ghost use Rattle.cif_desk.specs.Stops.{HasCause, Says, end_status, stop_line, stop_status};
 
 use crate::command::{Command, asked};
@@ -69,7 +69,7 @@ fn eval<S: Store, W: Sink>(
         (S.last_failed store.new) (Rose (S.faults store.old) (S.faults store.new))
         (Rose (W.faults out.old) (W.faults out.new))) }
     ensures noninterference { OnOk result
-        (EvaluatesApart (S.told store.old) (Some (evaluates net.now stim.now))) }
+        (WritesApart (S.told store.old) (Some (evaluates net.now stim.now)) (W.taken out.old) (W.taken out.new)) }
 {
     let accepted = netlist_file(alloc, net, store)?;
     let stimulus = stimulus_file(alloc, stim, &accepted.netlist, store)?;
@@ -91,7 +91,8 @@ fn answer<S: Store, W: Sink>(
         (S.last_failed store.new) (Rose (S.faults store.old) (S.faults store.new))
         (Rose (W.faults out.old) (W.faults out.new))) }
     ensures no_form { asked_by words.now ≡ None → result ≡ Err Stop.Usage }
-    ensures noninterference { OnOk result (EvaluatesApart (S.told store.old) (asked_by words.now)) }
+    ensures noninterference { OnOk result (WritesApart (S.told store.old) (asked_by words.now)
+        (W.taken out.old) (W.taken out.new)) }
 {
     match asked(words) {
         Some(Command::Check { net }) => check(alloc, net, store, out),
@@ -162,7 +163,9 @@ pub fn quiet<S: Store, W: Sink, E: Sink>(
     ensures err { WritesErr (S.told store.old) (asked_by words.now) (S.last_failed store.new) result
         (E.taken err.old) (E.taken err.new) }
 
-    ensures noninterference { result ≡ 0 → EvaluatesApart (S.told store.old) (asked_by words.now) }
+    // Each bit that out shows untainted has the value that is shown, under every stimulus that agrees up to its cycle.
+    ensures noninterference { result ≡ 0 → WritesApart (S.told store.old) (asked_by words.now)
+        (W.taken out.old) (W.taken out.new) }
 {
     match answer(alloc, words, store, out) {
         Ok(()) => 0,
@@ -204,7 +207,9 @@ pub fn cellift<S: Store, W: Sink, E: Sink, G: Gate + Sync, R>(
     ensures err { WritesErr (S.told store.old) (asked_by words.now) (S.last_failed store.new) result
         (E.taken err.old) (E.taken err.new) }
 
-    ensures noninterference { result ≡ 0 → EvaluatesApart (S.told store.old) (asked_by words.now) }
+    // Each bit that out shows untainted has the value that is shown, under every stimulus that agrees up to its cycle.
+    ensures noninterference { result ≡ 0 → WritesApart (S.told store.old) (asked_by words.now)
+        (W.taken out.old) (W.taken out.new) }
 {
     quiet(alloc, words, store, out, err)
 }

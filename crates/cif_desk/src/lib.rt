@@ -7,6 +7,8 @@ mod command;
 mod desk;
 mod evaluation;
 mod files;
+#[cfg(test)]
+mod hostile_tests;
 mod refusal;
 #[cfg(test)]
 mod state_tests;

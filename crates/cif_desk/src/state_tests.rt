@@ -1,12 +1,10 @@
 // Examples of cells with state, of whole stimuli and of releases, from files to text.
-use crate::cellift;
-use crate::tests::{Wanted, assert_ends, assert_refused, sink, store, words_of};
-use cif_io::{CallNumbers, Open};
+use crate::tests::{Wanted, assert_ends, assert_refused};
 use std::alloc::Global;
 use std::process::Abort;
 use std::test::Fail;
 
-const COUNTER: &str = r#"{"creator":"Yosys","modules":{"counter":{
+pub const COUNTER: &str = r#"{"creator":"Yosys","modules":{"counter":{
 "attributes":{"top":"00000000000000000000000000000001","src":"c.v:1.1-9.10"},
 "ports":{"clk":{"direction":"input","bits":[2]},
  "rst":{"direction":"input","bits":[3]},
@@ -34,7 +32,7 @@ const COUNTER: &str = r#"{"creator":"Yosys","modules":{"counter":{
  "q":{"hide_name":0,"bits":[5,6,7,8],"attributes":{"init":"0000"}},
  "rst":{"hide_name":0,"bits":[3],"attributes":{}}}}}}"#;
 
-const COUNTER_STIMULUS: &str =
+pub const COUNTER_STIMULUS: &str =
     "cellift-stimulus 1\ncycles 5\n@ 0\nset en 1\n@ 2\nset en 1 1\n@ 3\nset en 1\n";
 
 /// The evaluation of a netlist under a stimulus writes this text.
@@ -82,35 +80,8 @@ fn counter(rt: HostRuntime) -> Result<(), Fail> {
     assert_evaluates(&rt, rt.alloc(), COUNTER, COUNTER_STIMULUS, COUNTER_TEXT)
 }
 
-const COUNTER_TEXT: &str =
+pub const COUNTER_TEXT: &str =
     "cycle 0\nq 0000/0000\ncycle 1\nq 0001/0000\ncycle 2\nq 0010/0000\ncycle 3\nq 0011/0001\ncycle 4\nq 0100/0111\ndone 5\n";
-
-/// With these calls of store and out failing, the counter ends so, and out has the first bytes of its text.
-fn assert_fails(
-    rt: &impl Abort,
-    alloc: Global,
-    store_fails: &[u64],
-    out_fails: &[u64],
-    status: u8,
-    written: usize,
-) -> Result<(), Fail> {
-    let words = words_of(alloc, "eval net stim")?;
-    let mut store = store(alloc, &[("net", COUNTER), ("stim", COUNTER_STIMULUS)])?;
-    store.fail_at = CallNumbers::of(Vec::from_slice(alloc, store_fails)?);
-    let mut out = sink(alloc, out_fails)?;
-    let mut err = sink(alloc, &[])?;
-    let ended = cellift(rt, alloc, &words, &mut store, &mut out, &mut err, &Open);
-    assert_eq!(rt; ended, status);
-    let (text, _) = COUNTER_TEXT.as_bytes().split_at(written);
-    assert_eq!(rt; out.bytes.items(), text);
-    Ok(())
-}
-
-#[test]
-fn failing_calls(rt: HostRuntime) -> Result<(), Fail> {
-    assert_fails(&rt, rt.alloc(), &[], &[3], 4, 40)?;
-    assert_fails(&rt, rt.alloc(), &[2], &[], 3, 0)
-}
 
 #[test]
 fn counter_stimuli_refused(rt: HostRuntime) -> Result<(), Fail> {

@@ -165,7 +165,7 @@ const USAGE: &str = "usage: cellift check, eval, instrument, augstim, explain, r
 
 #[test]
 fn usage_and_missing_file(rt: HostRuntime) -> Result<(), Fail> {
-    for line in ["", "eval NET", "check", "run NET STIM SCRIPT 33 1 1"] {
+    for line in ["", "eval NET", "check", "run NET STIM SCRIPT 33 1 2"] {
         let wanted = Wanted {
             status: 1,
             out: "",

@@ -2,7 +2,7 @@ use Rattle.std.proofs.Common.{◌∙◌, arith, refl}
 use Rattle.std.proofs.lemmas.Result.{err_from_is_err_and}
 use Rattle.cif_desk.specs.Commands.{eval}
 use Rattle.cif_desk.proofs.CycleLaws.{Rose-since}
-use Rattle.cif_desk.proofs.AnswerLaws.{out_at_file, out_nothing, out_of_case, cause_at_netlist, cause_at_stimulus, StimulusTold-along, apart, on_ok_fact}
+use Rattle.cif_desk.proofs.AnswerLaws.{out_at_file, out_nothing, out_of_case, cause_at_netlist, cause_at_stimulus, StimulusTold-along, apart}
 use Rattle.cif_desk.proofs.desk.eval.Goals as goal
 
 pub returns-in_err-accepted-clause-out : goal.returns-in_err-accepted-clause-out
@@ -46,4 +46,5 @@ returns-clause-out g c =
 
 pub returns-clause-noninterference : goal.returns-clause-noninterference
 returns-clause-noninterference g c =
-    on_ok_fact c.write_cycles.result (apart _ c.args.net.now c.args.stim.now c.in_ok-accepted.accepted.netlist c.in_ok-accepted.accepted.levels c.in_ok-accepted.ensures.ok c.in_ok-accepted.ensures.levelled)
+    apart _ c.args.net.now c.args.stim.now c.in_ok-accepted.accepted.netlist c.in_ok-accepted.accepted.levels _ _ c.write_cycles.result
+    c.in_ok-accepted.ensures.ok c.in_ok-accepted.ensures.levelled (returns-clause-out g c)
