@@ -12,7 +12,6 @@ pub mod FrameLaws
 pub mod StateBits
 pub mod RowLaws
 pub mod MemoryWords
-pub mod RegisterWords
 pub mod StartLaws
 pub mod StartWords
 pub mod StateLaws

@@ -6,12 +6,12 @@ use Rattle.std.proofs.lemmas.List.{get_or_default}
 use Rattle.std.proofs.lemmas.Nat.{div-add-mod', row_fits, mod_below}
 use Rattle.cif_defs.specs.Words.{Word, bit, word, block, operand, number}
 use Rattle.cif_defs.specs.Meanings.{slice_word}
-use Rattle.cif_defs.specs.Memory.{MemoryShape, memory_bits, write_address, is_inside, row_at, data_place, written_bit, written_taint_bit, flag_after}
+use Rattle.cif_defs.specs.Memory.{MemoryShape, memory_bits, write_address, is_inside, row_at, data_place, written_bit, written_taint_bit, flag_after, sets_flag}
 use Rattle.cif_defs.proofs.Numbers.{word-same}
 use Rattle.cif_defs.proofs.WordLaws.{length-word, bit-word, same_words}
-use Rattle.rule_state.specs.MemoryTaints.{port_sets_flag, taint_after_port}
+use Rattle.rule_state.specs.MemoryTaints.{IsPortOf, taint_after_port, taint_row}
 use Rattle.rule_state.specs.declared.memory.WritePort.{WritePort}
-use Rattle.rule_state.proofs.MemoryLaws.{IsPortOf, port_flag, row_after_port, other_stays, outside_stays, taint_row}
+use Rattle.rule_state.proofs.MemoryLaws.{row_after_port, other_stays, outside_stays}
 use Rattle.cif_seq.specs.Rows.{IsPutAt}
 use Rattle.cif_seq.specs.Memories.{values_after, taints_after, row_written}
 use Rattle.cif_seq.proofs.RowLaws.{put_bit, row_step}
@@ -128,10 +128,9 @@ taint_stays m vs ts p port stored old h outside before =
 
 -- ---- the flag
 
-pub flag_more : (m : MemoryShape) (vs ts : List Word) (p : ℕ) (port : WritePort) (first old sets new : Bool) → IsPortOf m vs ts p port → old ≡ flag_after m vs ts p first → sets ≡ port_sets_flag port → new ≡ (old || sets) → new ≡ flag_after m vs ts (p + 1) first
+pub flag_more : (m : MemoryShape) (vs ts : List Word) (p : ℕ) (first old sets new : Bool) → old ≡ flag_after m vs ts p first → sets ≡ sets_flag m vs ts p → new ≡ (old || sets) → new ≡ flag_after m vs ts (p + 1) first
 unfolding flag_after
-flag_more m vs ts p port first old sets new h before e is =
-    rw add-one (is ∙ ap (λ b. b || sets) before ∙ ap (λ b. flag_after m vs ts p first || b) (e ∙ port_flag m vs ts p port h))
+flag_more m vs ts p first old sets new before e is = rw add-one (is ∙ ap (λ b. b || sets) before ∙ ap (λ b. flag_after m vs ts p first || b) e)
 
 pub flag_none : (m : MemoryShape) (vs ts : List Word) (first : Bool) → first ≡ flag_after m vs ts 0 first
 unfolding flag_after

@@ -134,24 +134,6 @@ unfolding read_word
 row_inside m address stored w at e q h =
     h ∙ same_word m.width (λ i. bit stored (at + i)) _ (λ i l. ap (λ (x : ℕ). bit stored (x + i)) q ∙ with_true (is_inside m address) _ e)
 
-pub inside_when : (m : MemoryShape) (place offset size : ℕ) → offset ≤ place → place - offset < size → (nat_le offset place && nat_lt (place - offset) size) ≡ true
-inside_when m place offset size l h = grind (arith, nat_tests)
-
-pub outside_below : (place offset size : ℕ) → place < offset → (nat_le offset place && nat_lt (place - offset) size) ≡ false
-outside_below place offset size l = grind (arith, nat_tests)
-
-pub outside_above : (place offset size : ℕ) → offset ≤ place → size ≤ place - offset → (nat_le offset place && nat_lt (place - offset) size) ≡ false
-outside_above place offset size l h = grind (arith, nat_tests)
-
--- ---- the taint of a read
-
-pub taint_of_row : (m : MemoryShape) (address address_taint stored_taint row w : Word) (flag : Bool) → row ≡ read_word m address stored_taint → w ≡ word (length row) (λ i. has_one address_taint || flag || bit row i) → w ≡ read_taint m address address_taint flag stored_taint
-unfolding read_word read_taint
-taint_of_row m address address_taint stored_taint row w flag e h =
-    let size : length row ≡ m.width = ap length e ∙ length-word m.width _ in
-    h ∙ ap (λ n. word n (λ i. has_one address_taint || flag || bit row i)) size
-    ∙ same_word m.width _ _ (λ i l. ap (λ x. has_one address_taint || flag || x) (ap (λ (u : Word). bit u i) e ∙ bit-word m.width _ i false l))
-
 -- ---- joined words
 
 word_append : (n m : ℕ) (f : ℕ → Bool) (u : Word) → length u ≡ m → ((i : ℕ) → i < m → bit u i ≡ f (n + i)) → word n f ++ u ≡ word (n + m) f

@@ -1,4 +1,4 @@
--- The reset of a register with asynchronous reset, and the words that it is stored in.
+-- The reset of a register with asynchronous reset.
 use Rattle.std.specs.Prelude.{ℕ, ◌+◌, ◌<◌, ◌≤◌, ◌≡◌, Bool, false, List, [], map, length, get_or}
 use Rattle.std.proofs.Common.{arith, ap, sym, ◌∙◌}
 use Rattle.std.proofs.lemmas.List.{length-map}
@@ -57,9 +57,3 @@ reset_word c q v ss w e h g = g ∙ ap (src_word v) (h ∙ ap (λ p. get_or c.op
 
 pub reset_taint : (c : Cell) (q : ℕ) (v : ℕ → Bool) (ss : _) (w : Word) → q ≡ reset_operand c.kind → ss ≡ get_or c.operands q [] → w ≡ taint_word v ss → w ≡ operand (operand_taints v c) (reset_operand c.kind)
 reset_taint c q v ss w e h g = g ∙ ap (taint_word v) (h ∙ ap (λ p. get_or c.operands p []) e) ∙ sym (operand-taints_under v c.operands (reset_operand c.kind))
-
--- a word that is read from its first bit on
-pub whole_word : (n : ℕ) (w u : Word) → length w ≡ n → u ≡ word n (λ i. bit w (0 + i)) → u ≡ w
-whole_word n w u e h = same_words u w (ap length h ∙ length-word n _ ∙ sym e) (λ i l.
-    let inside : i < n = (let q : length u ≡ n = ap length h ∙ length-word n _ in omega arith) in
-    ap (λ (x : Word). bit x i) h ∙ bit-word n _ i false inside ∙ ap (bit w) (omega arith))

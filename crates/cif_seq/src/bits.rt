@@ -1,8 +1,6 @@
 // Bits of words that may be read past their ends.
-ghost use Rattle.std.specs.Prelude.{◌≡◌, IfOk};
-ghost use Rattle.cif_defs.specs.Words.{bit, word};
-
-use std::alloc::{AllocError, Global};
+ghost use Rattle.std.specs.Prelude.{◌≡◌};
+ghost use Rattle.cif_defs.specs.Words.{bit};
 
 /// Bit `index` of a word, which is 0 past its end.
 pub fn bit_of(word: &[bool], index: usize) -> bool
@@ -16,15 +14,4 @@ pub fn long_bit(word: &[bool], index: u64) -> bool
     ensures { result ≡ bit word.now index }
 {
     index < word.len() as u64 && word[index as usize]
-}
-
-/// The first bits of a word, with 0 past its end.
-pub fn cut(alloc: Global, width: usize, source: &[bool]) -> Result<Vec<bool>, AllocError>
-    ensures { IfOk result (λ w. w.items ≡ word width (λ i. bit source.now i)) }
-{
-    let mut word = Vec::with_capacity(alloc, width)?;
-    for i in 0..width {
-        word.push(bit_of(source, i))?;
-    }
-    Ok(word)
 }

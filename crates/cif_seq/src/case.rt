@@ -137,21 +137,21 @@ impl Case {
     }
 
     /// For each net bit whether it is released.
-    pub fn released(&self) -> &[bool]
+    pub(crate) fn released(&self) -> &[bool]
         ensures { Marks (net_of self.now) result.now (is_released self.now.stimulus.lines) }
     {
         &self.released
     }
 
     /// The names of the stimulus, as they were looked up among the input ports.
-    pub fn names(&self) -> &InputMap
+    pub(crate) fn names(&self) -> &InputMap
         ensures { IsMapOf (net_of self.now) self.now.stimulus result.now }
     {
         &self.names
     }
 
     /// A cell of the netlist.
-    pub fn cell(&self, number: u32) -> &Cell
+    pub(crate) fn cell(&self, number: u32) -> &Cell
         requires { number < length (net_of self.now).cells }
         ensures is { result.now ≡ cell_at (net_of self.now) number }
         ensures wired { IsWired (net_of self.now) }

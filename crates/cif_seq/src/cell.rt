@@ -17,7 +17,9 @@ use std::alloc::Global;
 /// The output words of a cell and their taints, one of each for an output port.
 #[derive(Drop)]
 pub struct CellWords {
+    /// The words.
     pub values: Vec<Bits>,
+    /// Their taints.
     pub taints: Vec<Bits>,
 }
 

@@ -10,6 +10,7 @@ mod inputs;
 mod memory;
 mod reads;
 mod registers;
+mod rows;
 mod settle;
 mod shown;
 mod starts;

@@ -5,16 +5,25 @@ ghost use Rattle.cif_defs.specs.Kinds.{role_of};
 ghost use Rattle.cif_defs.specs.Cells.{number_of, shape_of, width as width_of};
 ghost use Rattle.cif_defs.specs.Memory.{next_flag, next_memory as memory_after, next_memory_taint};
 ghost use Rattle.cif_cells.specs.StateCells.{HasMemoryNumbers, HasMemoryPorts};
-ghost use Rattle.rule_state.specs.MemoryTaints.{HasPortWidths, taint_after_port};
-ghost use Rattle.rule_state.proofs.MemoryLaws.{IsPortOf};
-ghost use Rattle.cif_seq.specs.Memories.{values_after, taints_after, row_written, IsRowAt};
+ghost use Rattle.rule_state.specs.MemoryTaints.{HasPortWidths, IsPortOf, taint_after_port};
+ghost use Rattle.cif_seq.specs.Memories.{values_after, taints_after, row_written};
 ghost use Rattle.cif_seq.specs.Rows.{IsPutAt};
 
+use crate::rows::row_of;
 use crate::stored::{CellState, StateRef, StateWord};
 use cif_bits::{Bits, NoMemory};
 use cif_cells::{Cell, Param, Role};
 use rule_state::{WritePort, write_flag, write_taint};
 use std::alloc::Global;
+
+/// The operand of the enables of the write ports, in which port 0 is lowest, as in each operand of a memory.
+const WRITE_ENABLE: usize = 1;
+
+/// The operand of their addresses.
+const WRITE_ADDRESS: usize = 2;
+
+/// The operand of their data.
+const WRITE_DATA: usize = 3;
 
 /// Block `number` of a joined operand, whose blocks have `width` bits each.
 fn block_of(
@@ -50,31 +59,13 @@ fn port_of(
     let width = cell.number(Param::Width) as u32;
     let address_width = cell.number(Param::Abits) as u32;
     Ok(WritePort {
-        addr: block_of(alloc, values, 2, address_width, number)?,
-        addr_taint: block_of(alloc, taints, 2, address_width, number)?,
-        enable: block_of(alloc, values, 1, width, number)?,
-        enable_taint: block_of(alloc, taints, 1, width, number)?,
-        word: block_of(alloc, values, 3, width, number)?,
-        word_taint: block_of(alloc, taints, 3, width, number)?,
+        addr: block_of(alloc, values, WRITE_ADDRESS, address_width, number)?,
+        addr_taint: block_of(alloc, taints, WRITE_ADDRESS, address_width, number)?,
+        enable: block_of(alloc, values, WRITE_ENABLE, width, number)?,
+        enable_taint: block_of(alloc, taints, WRITE_ENABLE, width, number)?,
+        word: block_of(alloc, values, WRITE_DATA, width, number)?,
+        word_taint: block_of(alloc, taints, WRITE_DATA, width, number)?,
     })
-}
-
-/// The row at an address, where that lies inside the memory.
-fn row_of(cell: &Cell, address: &Bits) -> Option<u64>
-    requires { length address.now ≤ 32 }
-    ensures { IsRowAt (shape_of cell.now) address.now result }
-{
-    let number = address.to_u128();
-    let offset = u128::from(cell.number(Param::Offset));
-    if number < offset {
-        return None;
-    }
-    let row = (number - offset) as u64;
-    if row < cell.number(Param::Size) {
-        Some(row)
-    } else {
-        None
-    }
 }
 
 /// What a write port makes of a bit of its row.

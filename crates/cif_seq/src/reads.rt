@@ -1,9 +1,9 @@
 // What memories show at their read ports.
-ghost use Rattle.std.specs.Prelude.{◌≡◌, ◌<◌, ◌*◌, true, false, length, IfOk, IsNone, IsSome, IfSome};
+ghost use Rattle.std.specs.Prelude.{◌≡◌, ◌<◌, length, IfOk};
 ghost use Rattle.cif_defs.specs.Words.{bit};
 ghost use Rattle.cif_defs.specs.Kinds.{role_of};
-ghost use Rattle.cif_defs.specs.Cells.{number_of, shape_of, width as width_of};
-ghost use Rattle.cif_defs.specs.Memory.{is_inside, row_at, read_word, read_taint as read_taint_of, read_address as read_address_of};
+ghost use Rattle.cif_defs.specs.Cells.{number_of, shape_of};
+ghost use Rattle.cif_defs.specs.Memory.{read_word, read_taint as read_taint_of, read_address as read_address_of};
 ghost use Rattle.cif_defs.specs.Fitted.{IsFitted};
 ghost use Rattle.cif_defs.specs.Run.{operand_words};
 ghost use Rattle.cif_defs.specs.TaintRun.{operand_taints};
@@ -11,6 +11,7 @@ ghost use Rattle.cif_cells.specs.StateCells.{HasMemoryNumbers};
 ghost use Rattle.cif_seq.specs.CellWords.{read_words, read_taints};
 
 use crate::gather::{part, taint_word, value_word};
+use crate::rows::row_of;
 use crate::shown::WordPair;
 use crate::stored::StateWord;
 use cif_bits::{Bits, NoMemory};
@@ -18,10 +19,15 @@ use cif_cells::{Cell, Param, Role};
 use rule_state::read_taint;
 use std::alloc::Global;
 
+/// The operand of the addresses of the read ports.
+const READ_ADDRESS: u32 = 0;
+
 /// The joined words of the read ports of a memory, in which port 0 is lowest, and their taint.
 #[derive(Drop)]
 pub struct ReadData {
+    /// The joined words.
     pub value: Vec<bool>,
+    /// Their taint.
     pub taint: Vec<bool>,
 }
 
@@ -44,31 +50,10 @@ fn read_address(
 {
     let size = cell.number(Param::Abits) as usize;
     let start = port as usize * size;
-    let sources = part(cell.operand(0), start, size);
+    let sources = part(cell.operand(READ_ADDRESS), start, size);
     let value = value_word(alloc, values, sources)?;
     let taint = taint_word(alloc, taints, sources)?;
     Ok(WordPair { value, taint })
-}
-
-/// Where the row at an address begins among the bits of a memory; None outside it.
-fn row_start(cell: &Cell, address: &Bits) -> Option<u64>
-    requires numbers { HasMemoryNumbers cell.now }
-    requires address { length address.now ≡ number_of cell.now Param.Abits }
-    ensures outside { IsNone result → is_inside (shape_of cell.now) address.now ≡ false }
-    ensures inside { IsSome result → is_inside (shape_of cell.now) address.now ≡ true }
-    ensures start { IfSome result
-        (λ at. at ≡ row_at (shape_of cell.now) address.now * width_of cell.now) }
-{
-    let place = address.to_u128() as u64;
-    let offset = cell.number(Param::Offset);
-    if place < offset {
-        return None;
-    }
-    let row = place - offset;
-    if row >= cell.number(Param::Size) {
-        return None;
-    }
-    Some(row * cell.number(Param::Width))
 }
 
 /// The row of a memory at an address, where `stored` are the bits that it stores, or their taint; zeros outside it.
@@ -83,8 +68,9 @@ fn row_word(
     ensures { IfOk result (λ w. w ≡ read_word (shape_of cell.now) address.now stored.now) }
 {
     let width = cell.number(Param::Width) as u32;
-    match row_start(cell, address) {
-        Some(start) => {
+    match row_of(cell, address) {
+        Some(row) => {
+            let start = row * cell.number(Param::Width);
             let bits = stored.word(alloc, start, width)?;
             Ok(Bits::of(bits))
         }

@@ -1,5 +1,5 @@
 // What a register stores next.
-ghost use Rattle.std.specs.Prelude.{◌≡◌, ◌≤◌, ◌∷◌, ◌++◌, [], true, length, map, Some, IfOk};
+ghost use Rattle.std.specs.Prelude.{◌≡◌, ◌∷◌, ◌++◌, [], true, length, map, Some, IfOk};
 ghost use Rattle.cif_defs.specs.Words.{bit};
 ghost use Rattle.cif_defs.specs.Kinds.{role_of};
 ghost use Rattle.cif_defs.specs.Cells.{next_word, width as width_of};
@@ -9,25 +9,16 @@ ghost use Rattle.cif_cells.specs.RegisterKinds.{is_register};
 
 use crate::stored::{CellState, StateRef, StateWord};
 use cif_bits::{Bits, NoMemory};
-use cif_cells::{Cell, Param, register_next};
+use cif_cells::{Cell, register_next};
 use rule_state::next_taint_term;
 use std::alloc::Global;
-
-/// The bits of a stored word of at most 65,536 bits.
-fn bits_of(alloc: Global, stored: &StateWord, width: u32) -> Result<Bits, NoMemory>
-    requires length { length stored.now ≡ width }
-    requires limit { width ≤ 65536 }
-    ensures { IfOk result (λ b. b ≡ stored.now) }
-{
-    let bits = stored.word(alloc, 0, width)?;
-    Ok(Bits::of(bits))
-}
 
 /// The stored word of these bits.
 fn stored_of(alloc: Global, bits: &Bits) -> Result<StateWord, NoMemory>
     ensures { IfOk result (λ w. w ≡ bits.now) }
 {
-    StateWord::of(alloc, Vec::from_slice(alloc, bits.bits())?)
+    let bits = Vec::from_slice(alloc, bits.bits())?;
+    Ok(StateWord::of(bits))
 }
 
 /// The taint of what a register stores next, from the words of its operands and the word that it stores, each with its
@@ -78,9 +69,8 @@ pub fn next_register(
         ≡ next_register_taint cell.now values.items taints.items prior.entry.value.now prior.entry.taint.now) }
     ensures flag { IfOk result (λ s. s.flag ≡ prior.entry.flag) }
 {
-    let width = cell.number(Param::Width) as u32;
-    let stored = bits_of(alloc, prior.value, width)?;
-    let stored_taint = bits_of(alloc, prior.taint, width)?;
+    let stored = prior.value.whole(alloc)?;
+    let stored_taint = prior.taint.whole(alloc)?;
     let next = register_next(alloc, cell, &values, &stored)?;
     let taint = next_taint(alloc, cell, values, taints, stored, stored_taint)?;
     Ok(CellState {

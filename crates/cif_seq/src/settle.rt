@@ -257,7 +257,9 @@ fn start_pair(case: &Case, stored: &StoredWords, inputs: &Inputs, net: u32) -> P
 /// The value and the taint of each net bit.
 #[derive(Drop)]
 pub struct NetBits {
+    /// The values, by net bit.
     pub values: Vec<bool>,
+    /// The taints, by net bit.
     pub taints: Vec<bool>,
 }
 

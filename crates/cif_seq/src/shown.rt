@@ -1,5 +1,5 @@
 // What registers with asynchronous reset show.
-ghost use Rattle.std.specs.Prelude.{◌≡◌, ◌≤◌, length, IfOk};
+ghost use Rattle.std.specs.Prelude.{◌≡◌, length, IfOk};
 ghost use Rattle.cif_defs.specs.Words.{bit, operand};
 ghost use Rattle.cif_defs.specs.Kinds.{role_of};
 ghost use Rattle.cif_defs.specs.Cells.{width as width_of, reset_operand, shown_word};
@@ -11,14 +11,16 @@ ghost use Rattle.cif_defs.specs.TaintRun.{operand_taints};
 use crate::gather::{taint_word, value_word};
 use crate::stored::StateWord;
 use cif_bits::{Bits, NoMemory};
-use cif_cells::{Cell, Kind, Param, Role, register_show};
+use cif_cells::{Cell, Kind, Role, register_show};
 use rule_state::show_taint_term;
 use std::alloc::Global;
 
 /// A word and its taint.
 #[derive(Drop)]
 pub struct WordPair {
+    /// The word.
     pub value: Bits,
+    /// Its taint.
     pub taint: Bits,
 }
 
@@ -30,16 +32,6 @@ fn reset_port(kind: Kind) -> u32
         Kind::Adffe => 2,
         _ => 1,
     }
-}
-
-/// A whole stored word.
-fn whole_word(alloc: Global, stored: &StateWord, width: u32) -> Result<Bits, NoMemory>
-    requires size { length stored.now ≡ width }
-    requires limit { width ≤ 65536 }
-    ensures { IfOk result (λ w. w ≡ stored.now) }
-{
-    let bits = stored.word(alloc, 0, width)?;
-    Ok(Bits::of(bits))
 }
 
 /// The taint of what a register with asynchronous reset shows, where `reset` is the word at its reset and `stored` the
@@ -110,11 +102,10 @@ pub fn shown_words(
         (operand (operand_taints (bit taints.now) cell.now) (reset_operand cell.now.kind))
         stored.now stored_taint.now) }
 {
-    let width = cell.number(Param::Width) as u32;
     let reset = reset_word(alloc, cell, values, taints)?;
     let stored = WordPair {
-        value: whole_word(alloc, stored, width)?,
-        taint: whole_word(alloc, stored_taint, width)?,
+        value: stored.whole(alloc)?,
+        taint: stored_taint.whole(alloc)?,
     };
     let value = register_show(alloc, cell, reset.value.get(0), &stored.value)?;
     let taint = shown_taint_of(alloc, cell, reset, stored)?;

@@ -28,7 +28,9 @@ pub struct StartLines<'a> {
 /// The word with which a register or a memory starts, and its taint.
 #[derive(Drop)]
 pub struct StartWord {
+    /// The word.
     pub value: Vec<bool>,
+    /// Its taint.
     pub taint: Vec<bool>,
 }
 

@@ -21,16 +21,16 @@ use cif_stim::Stimulus;
 use std::alloc::Global;
 
 /// What a cell without state stores: words of no bits, and this flag.
-fn no_state(alloc: Global, flag: bool) -> Result<CellState, NoMemory>
-    ensures value { IfOk result (λ s. s.value ≡ []) }
-    ensures taint { IfOk result (λ s. s.taint ≡ []) }
-    ensures flag { IfOk result (λ s. s.flag ≡ flag) }
+fn no_state(alloc: Global, flag: bool) -> CellState
+    ensures value { result.value ≡ [] }
+    ensures taint { result.taint ≡ [] }
+    ensures flag { result.flag ≡ flag }
 {
-    Ok(CellState {
-        value: StateWord::of(alloc, Vec::new(alloc))?,
-        taint: StateWord::of(alloc, Vec::new(alloc))?,
+    CellState {
+        value: StateWord::of(Vec::new(alloc)),
+        taint: StateWord::of(Vec::new(alloc)),
         flag,
-    })
+    }
 }
 
 /// What a cell starts with, by the table of the stimulus's lines.
@@ -54,8 +54,8 @@ fn start_state<'a>(
         Role::PlainRegister | Role::ResetRegister => {
             let start = start_word(alloc, netlist, stimulus, table, number)?;
             Ok(CellState {
-                value: StateWord::of(alloc, start.value)?,
-                taint: StateWord::of(alloc, start.taint)?,
+                value: StateWord::of(start.value),
+                taint: StateWord::of(start.taint),
                 flag: false,
             })
         }
@@ -67,7 +67,7 @@ fn start_state<'a>(
                 flag: false,
             })
         }
-        Role::Combinational | Role::CarriedOver => no_state(alloc, false),
+        Role::Combinational | Role::CarriedOver => Ok(no_state(alloc, false)),
     }
 }
 
@@ -138,7 +138,7 @@ fn next_state(
             let operand_taints = taint_words(alloc, taints, cell)?;
             next_memory(alloc, cell, &operands, &operand_taints, prior)
         }
-        Role::Combinational | Role::CarriedOver => no_state(alloc, prior.flag),
+        Role::Combinational | Role::CarriedOver => Ok(no_state(alloc, prior.flag)),
     }
 }
 

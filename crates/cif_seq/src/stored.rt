@@ -1,9 +1,9 @@
 // Stored words: what a register or a memory holds in one cycle.
-ghost use Rattle.std.specs.Prelude.{◌≡◌, ◌+◌, ◌<◌, ◌^◌, length, slice_set, IfOk, OnOk, OnErr};
+ghost use Rattle.std.specs.Prelude.{◌≡◌, ◌+◌, ◌<◌, ◌≤◌, ◌^◌, length, slice_set, IfOk, OnOk, OnErr};
 ghost use Rattle.cif_defs.specs.Words.{bit, word};
 
 use crate::bits::long_bit;
-use cif_bits::NoMemory;
+use cif_bits::{Bits, NoMemory};
 use cif_pages::Paged;
 use std::alloc::Global;
 use std::marker::Model;
@@ -35,12 +35,12 @@ impl Model for StateWord {
 
 impl StateWord {
     /// The word of these bits, for a register.
-    pub fn of(_alloc: Global, word: Vec<bool>) -> Result<StateWord, NoMemory>
-        ensures { IfOk result (λ w. w ≡ word.items) }
+    pub fn of(word: Vec<bool>) -> StateWord
+        ensures { result ≡ word.items }
     {
-        Ok(StateWord {
+        StateWord {
             kept: Kept::Plain(word),
-        })
+        }
     }
 
     /// The word of these bits, fewer than 2 to the 32, for a memory: its pages are shared from cycle to cycle.
@@ -86,6 +86,16 @@ impl StateWord {
         Ok(bits)
     }
 
+    /// All the bits, of which there are at most 65,536.
+    pub fn whole(&self, alloc: Global) -> Result<Bits, NoMemory>
+        requires { length self.now ≤ 65536 }
+        ensures { IfOk result (λ w. w ≡ self.now) }
+    {
+        let width = self.len() as u32;
+        let bits = self.word(alloc, 0, width)?;
+        Ok(Bits::of(bits))
+    }
+
     /// Another word of the same bits. One of a memory shares all its pages.
     pub fn share(&self, alloc: Global) -> Result<StateWord, NoMemory>
         ensures { IfOk result (λ w. w ≡ self.now) }
@@ -123,23 +133,32 @@ impl StateWord {
 /// What one cell stores: a word, its taint, and the sticky flag of a memory, which is off for any other cell.
 #[derive(Drop)]
 pub struct CellState {
+    /// The word.
     pub value: StateWord,
+    /// Its stored taint.
     pub taint: StateWord,
+    /// The flag.
     pub flag: bool,
 }
 
 /// What one cell stores, lent.
 #[derive(Clone, Copy)]
 pub struct StateRef<'a> {
+    /// The word.
     pub value: &'a StateWord,
+    /// Its stored taint.
     pub taint: &'a StateWord,
+    /// The flag.
     pub flag: bool,
 }
 
 /// What all cells store, one of each for every cell; the words of a cell without state have no bits.
 #[derive(Drop)]
 pub struct StoredWords {
+    /// The words.
     pub values: Vec<StateWord>,
+    /// Their stored taints.
     pub taints: Vec<StateWord>,
+    /// The flags.
     pub flags: Vec<bool>,
 }

@@ -25,5 +25,6 @@ pub loop-number-preserved : goal.loop-number-preserved
 loop-number-preserved c = record {
   value = c.in_ok-write_port.ensures.value c.args.values.now c.args.taints.now c.loop-number.number c.args.prior.value.now c.in_ok-port.ensures c.loop-number.invariant.value;
   taint = c.in_ok-write_port.ensures.taint c.args.values.now c.args.taints.now c.loop-number.number c.args.prior.taint.now c.in_ok-port.ensures c.loop-number.invariant.taint;
-  flag = flag_more (shape_of c.args.cell.now) c.args.values.now c.args.taints.now c.loop-number.number c.in_ok-port.port _ c.loop-number.flag _ _ c.in_ok-port.ensures c.loop-number.invariant.flag c.write_flag-flag.ensures refl;
+  flag = flag_more (shape_of c.args.cell.now) c.args.values.now c.args.taints.now c.loop-number.number _ c.loop-number.flag _ _ c.loop-number.invariant.flag
+      (c.write_flag-flag.ensures.defined (shape_of c.args.cell.now) c.args.values.now c.args.taints.now c.loop-number.number c.in_ok-port.ensures) refl;
 }

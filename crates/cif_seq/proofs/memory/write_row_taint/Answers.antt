@@ -18,11 +18,11 @@ write_taint-requires-clause-stored c = ap length c.of-row.ensures ∙ ap length 
 
 pub put_row-requires : goal.put_row-requires
 put_row-requires c =
-    let size : length c.bits.result.now ≡ width c.args.cell.now = ap length (c.bits.ensures.value ∙ c.write_taint.ensures) ∙ length-word _ _ in
+    let size : length c.bits.result.now ≡ width c.args.cell.now = ap length (c.bits.ensures.value ∙ c.write_taint.ensures.is) ∙ length-word _ _ in
     omega (arith, c.requires.inside)
 
 pub returns : goal.returns
 returns c = put_same _ _ _ _ _
-    (c.bits.ensures.value ∙ c.write_taint.ensures
+    (c.bits.ensures.value ∙ c.write_taint.ensures.is
     ∙ ap (λ (x : Word). taint_after_port (width c.args.cell.now) c.args.port.now c.args.address x) (c.of-row.ensures ∙ c.in_ok-word.ensures ∙ ap (λ n. word n (λ i. bit c.args.stored.now (c.args.at + i))) c.number-width.ensures))
     c.in_ok-put_row.ensures
