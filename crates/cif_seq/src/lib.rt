@@ -16,6 +16,8 @@ mod shown;
 mod starts;
 mod state;
 mod stored;
+#[cfg(test)]
+mod tests;
 mod write;
 
 pub use case::Case;
