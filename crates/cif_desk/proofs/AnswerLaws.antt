@@ -1,7 +1,6 @@
 -- What commands leave, by the way in which they end.
 use Rattle.std.specs.Prelude.{ℕ, ◌≤◌, ◌≡◌, List, [], ◌++◌, Option, Some, Result, Ok, Err, OnOk, IfErr, refl}
 use Rattle.std.proofs.Common.{arith, ap, sym, subst, inl, inr, ◌∙◌}
-use Rattle.std.proofs.Math.Option.{some-injective}
 use Rattle.std.proofs.lemmas.List.{append_cancel_left}
 use Rattle.cif_io.specs.Outside.{Files, Appends, AppendsPrefix, taken_with}
 use Rattle.cif_io.proofs.OutsideLaws.{Appends-nothing}
@@ -230,7 +229,10 @@ taken_with-Some before bytes = refl
 
 -- what a sink tells that it took is told once
 same_bytes : (old new : Option (List ℕ)) (before a b : List ℕ) → Appends old new a → old ≡ Some before → new ≡ Some (before ++ b) → a ≡ b
-same_bytes old new before a b h o n = append_cancel_left before a b (some-injective (before ++ a) (before ++ b) (sym (h.taken ∙ ap (λ t. taken_with t a) o ∙ taken_with-Some before a) ∙ n))
+same_bytes old new before a b h o n =
+    let both : Some (before ++ a) ≡ Some (before ++ b) = sym (h.taken ∙ ap (λ t. taken_with t a) o ∙ taken_with-Some before a) ∙ n in
+    let same : before ++ a ≡ before ++ b = cc in
+    append_cancel_left before a b same
 
 -- an evaluation that ends well
 pub apart : {A : Type 0} (told : Option Files) (net stim : List ℕ) (raw : Raw) (order : List ℕ) (old new : Option (List ℕ)) (r : Result A Stop) → NetlistTold told net raw → IsLevelled (netlist_of raw) order → WritesOut told (Some (eval net stim)) (end_status r) old new

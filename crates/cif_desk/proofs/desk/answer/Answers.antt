@@ -10,7 +10,7 @@ pub returns-in-Some-Eval-clause-noninterference : goal.returns-in-Some-Eval-clau
 returns-in-Some-Eval-clause-noninterference g c =
     let is : asked_by c.args.words.now ≡ Some (eval c.in-Some-Eval.net.now c.in-Some-Eval.stim.now) =
     sym c.in-Some-Eval.ensures ∙ ap (λ (x : Command). Some (command_seen x)) c.in-Some-Eval.field-0-is in
-    let P : Option CommandData → Type 0 = λ asked. OnOk c.eval.result (WritesApart (g.S.Store.told c.args.store.now) asked (g.W.Sink.taken c.args.out.now) (g.W.Sink.taken c.eval.out.new)) in
+    let P : Option CommandData → Type 0 = λ asked. OnOk c.eval.result (WritesApart (g.S.Store.told c.args.store.now) asked (g.W.Sink.taken c.args.out.now) (g.W.Sink.taken c.eval.new.out)) in
     subst P (sym is) c.eval.ensures.noninterference
 
 pub returns-in-None-clause-out : goal.returns-in-None-clause-out
