@@ -8,6 +8,7 @@ use std::process::Abort;
 use std::test::Fail;
 
 /// The numbers of the calls that fail.
+#[derive(Clone, Copy)]
 struct Failing<'a> {
     store: &'a [u64],
     out: &'a [u64],
