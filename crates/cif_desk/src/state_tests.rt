@@ -148,11 +148,11 @@ fn differing_run(rt: HostRuntime) -> Result<(), Fail> {
 /// Two runs of the counter differ in bits whose taint, five bytes on, is 1, and nowhere else.
 fn differ_where_tainted(rt: &impl Abort, first: &[u8], second: &[u8]) -> Result<(), Fail> {
     assert_eq!(rt; first.len(), second.len());
-    let mut differing = 0;
+    let mut differing = 0u8;
     for (place, byte) in first.iter().enumerate() {
         if second.get(place) != Some(byte) {
             assert_eq!(rt; first.get(place.saturating_add(5)), Some(&b'1'));
-            differing += 1u8;
+            differing = differing.saturating_add(1);
         }
     }
     assert_eq!(rt; differing, 4);
