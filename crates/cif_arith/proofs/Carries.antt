@@ -9,7 +9,7 @@ use Rattle.std.proofs.Math.Nat.{add-mul-div_left, div-add-mod, div-mul-le_self, 
 use Rattle.cif_defs.specs.Words.{bit_value, digit, number, word, word_of, xor}
 use Rattle.cif_defs.proofs.Numbers.{digit_mod, word-same}
 use Rattle.cif_defs.proofs.WordNumbers.{number-word_of}
-use Rattle.cif_arith.specs.Numbers.{carries, carry_out}
+use Rattle.cif_arith.specs.NumbersOfBits.{carries, carry_out}
 
 -- ---- digits of bitwise operations
 

@@ -11,7 +11,7 @@ use Rattle.std.proofs.lemmas.Nat.{div-mul-add, mod-mul-add}
 use Rattle.cif_defs.specs.Meanings.{floor_div, floor_rem}
 use Rattle.cif_defs.specs.Words.{digit}
 use Rattle.cif_defs.proofs.WordLaws.{le_or_lt}
-use Rattle.cif_arith.specs.Numbers.{integer_of, residue}
+use Rattle.cif_arith.specs.NumbersOfBits.{integer_of, residue}
 
 -- the magnitude, with a minus sign where it is negative
 abbrev pub with_sign : Bool → ℕ → ℤ

@@ -11,7 +11,7 @@ use Rattle.cif_defs.specs.Words.{Word, bit, bit_value, digit, extend, extended_b
 use Rattle.cif_defs.proofs.WordLaws.{bit-word, length-word}
 use Rattle.cif_defs.proofs.Numbers.{number_complement, word-same}
 use Rattle.cif_defs.proofs.WordNumbers.{compared-numbers, compared_le, digit-number, int_number-extend, number-word_low, word_of-mod, word_of-number}
-use Rattle.cif_arith.specs.Numbers.{carries, carry_out, division, integer_of, inverted_where, residue}
+use Rattle.cif_arith.specs.NumbersOfBits.{carries, carry_out, division, integer_of, inverted_where, residue}
 use Rattle.cif_arith.proofs.Carries.{digit-xor}
 use Rattle.cif_arith.proofs.Residues.{residue-mod}
 

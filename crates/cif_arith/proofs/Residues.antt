@@ -8,7 +8,7 @@ use Rattle.std.proofs.lemmas.Nat.Bits.{ones_shr}
 use Rattle.std.proofs.Math.Nat.{add-mod_right, div-add-mod, mod-add-mod, mod-eq_of_lt, mod-lt}
 use Rattle.cif_defs.specs.Words.{bit_value}
 use Rattle.cif_defs.proofs.WordLaws.{le_or_lt}
-use Rattle.cif_arith.specs.Numbers.{residue}
+use Rattle.cif_arith.specs.NumbersOfBits.{residue}
 
 -- ---- numbers
 

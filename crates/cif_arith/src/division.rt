@@ -2,7 +2,7 @@
 
 ghost use Rattle.std.specs.Prelude.{◌≡◌, ◌^◌, ◌<◌, ◌≤◌, int_div, int_rem};
 ghost use Rattle.cif_defs.specs.Meanings.{floor_div, floor_rem};
-ghost use Rattle.cif_arith.specs.Numbers.{division};
+ghost use Rattle.cif_arith.specs.NumbersOfBits.{division};
 
 use crate::integer::Integer;
 

@@ -4,7 +4,7 @@ ghost use Rattle.std.specs.Prelude.{◌≡◌, ◌≢◌, ◌-◌, ◌^◌, ◌<
 ghost use Rattle.std.specs.Ordering.{int_eq};
 ghost use Rattle.cif_defs.specs.Words.{digit};
 ghost use Rattle.cif_defs.specs.Meanings.{floor_div, floor_rem};
-ghost use Rattle.cif_arith.specs.Numbers.{integer_of, residue};
+ghost use Rattle.cif_arith.specs.NumbersOfBits.{integer_of, residue};
 
 use crate::sums::{lowest, neg};
 use std::marker::Model;

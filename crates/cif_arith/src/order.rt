@@ -1,7 +1,7 @@
 // The order of numbers that may be signed.
 
 ghost use Rattle.std.specs.Prelude.{◌≡◌, ◌^◌, ◌<◌, ◌≤◌, int_lt};
-ghost use Rattle.cif_arith.specs.Numbers.{integer_of};
+ghost use Rattle.cif_arith.specs.NumbersOfBits.{integer_of};
 
 use crate::integer::is_negative;
 

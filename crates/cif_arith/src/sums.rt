@@ -5,7 +5,7 @@
 
 ghost use Rattle.std.specs.Prelude.{◌≡◌, ◌+◌, ◌-◌, ◌*◌, ◌%◌, ◌^◌, ◌<◌, ◌≤◌, pos, ◌-ℤ◌, neg_ℤ, bit_xor};
 ghost use Rattle.cif_defs.specs.Words.{bit_value};
-ghost use Rattle.cif_arith.specs.Numbers.{residue, inverted_where, carries};
+ghost use Rattle.cif_arith.specs.NumbersOfBits.{residue, inverted_where, carries};
 
 /// The highest number of `width` bits.
 pub(crate) fn mask(width: u32) -> u128

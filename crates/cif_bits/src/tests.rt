@@ -6,187 +6,246 @@ ghost use Rattle.std.specs.Prelude.{◌≡◌, length};
 use super::{Bits, NoMemory, TextFault};
 use std::process::Abort;
 
+// A call that makes a word of one or two words.
+#[derive(Clone, Copy, Drop)]
+enum Call {
+    Copy,
+    And,
+    Or,
+    Xor,
+    Not,
+    Concat,
+    Slice { at: u32, width: u32 },
+    Extend { width: u32, signed: bool },
+    Shl(u32),
+    Shr { by: u32, fill: bool },
+}
+
+// A call, its words, and the word that it makes. What takes one word is given the other for nothing.
+const CALLS: [(Call, &str, &str, &str); 26] = [
+    (Call::Copy, "0110", "0000", "0110"),
+    (Call::And, "1100", "1010", "1000"),
+    (Call::Or, "1100", "1010", "1110"),
+    (Call::Xor, "1100", "1010", "0110"),
+    (Call::Not, "1010", "0000", "0101"),
+    (Call::Concat, "01", "110", "11001"),
+    (Call::Slice { at: 1, width: 2 }, "110", "0", "11"),
+    (Call::Slice { at: 0, width: 2 }, "110", "0", "10"),
+    (
+        Call::Extend {
+            width: 5,
+            signed: true,
+        },
+        "110",
+        "0",
+        "11110",
+    ),
+    (
+        Call::Extend {
+            width: 5,
+            signed: false,
+        },
+        "110",
+        "0",
+        "00110",
+    ),
+    (
+        Call::Extend {
+            width: 3,
+            signed: true,
+        },
+        "01",
+        "0",
+        "001",
+    ),
+    (
+        Call::Extend {
+            width: 2,
+            signed: true,
+        },
+        "110",
+        "0",
+        "10",
+    ),
+    (Call::Shl(0), "1001", "0", "1001"),
+    (Call::Shl(1), "1001", "0", "0010"),
+    (Call::Shl(3), "1001", "0", "1000"),
+    (Call::Shl(4), "1001", "0", "0000"),
+    (Call::Shl(u32::MAX), "1001", "0", "0000"),
+    (Call::Shr { by: 0, fill: false }, "1001", "0", "1001"),
+    (Call::Shr { by: 1, fill: false }, "1001", "0", "0100"),
+    (Call::Shr { by: 1, fill: true }, "1001", "0", "1100"),
+    (Call::Shr { by: 3, fill: false }, "1001", "0", "0001"),
+    (Call::Shr { by: 3, fill: true }, "1001", "0", "1111"),
+    (Call::Shr { by: 4, fill: false }, "1001", "0", "0000"),
+    (Call::Shr { by: 4, fill: true }, "1001", "0", "1111"),
+    (
+        Call::Shr {
+            by: u32::MAX,
+            fill: false,
+        },
+        "1001",
+        "0",
+        "0000",
+    ),
+    (
+        Call::Shr {
+            by: u32::MAX,
+            fill: true,
+        },
+        "1001",
+        "0",
+        "1111",
+    ),
+];
+
+// A word, and whether all of its bits, one of them, and an odd number of them are 1.
+const REDUCTIONS: [(&str, bool, bool, bool); 5] = [
+    ("0", false, false, false),
+    ("1", true, true, true),
+    ("01", false, true, true),
+    ("11", true, true, false),
+    ("0111", false, true, true),
+];
+
+// A width, a number, and the number that the word of that width holds.
+const NUMBERS: [(u32, u128, u128); 7] = [
+    (1, 2, 0),
+    (1, 3, 1),
+    (4, 10, 10),
+    (4, 31, 15),
+    (127, u128::MAX, (1 << 127) - 1),
+    (128, u128::MAX, u128::MAX),
+    (128, 1 << 127, 1 << 127),
+];
+
+// A text, and the place of its first byte that is no digit.
+const TEXTS: [(&str, Option<u32>); 5] = [
+    ("0110", None),
+    ("x", Some(0)),
+    ("01a0b", Some(2)),
+    ("10/", Some(2)),
+    ("12", Some(1)),
+];
+
 // The word of a text of digits.
-fn word(rt: &(impl Abort + AllocGlobal), text: &[u8]) -> Bits
+fn word(rt: &(impl Abort + AllocGlobal), text: &str) -> Bits
     ensures { length result ≡ length text.now }
 {
     assert!(rt; !text.is_empty());
     assert!(rt; text.len() <= 65_536);
-    let word = Bits::from_text(rt.alloc(), text).expect(rt, "digits");
+    let word = Bits::from_text(rt.alloc(), text.as_bytes()).expect(rt, "digits");
     assert!(rt; word.width() as usize == text.len());
     word
 }
 
-// The call made the word of this text.
-fn expect_word(rt: &(impl Abort + AllocGlobal), answer: Result<Bits, NoMemory>, want: &[u8]) {
-    let word = answer.expect(rt, "memory");
-    let text = word.to_text(rt.alloc()).expect(rt, "memory");
-    assert_eq!(rt; text.as_slice(), want);
-}
-
-// The place of the first byte that is no digit.
-fn bad_place(rt: &(impl Abort + AllocGlobal), text: &[u8]) -> Option<u32> {
-    assert!(rt; !text.is_empty());
-    assert!(rt; text.len() <= 65_536);
-    match Bits::from_text(rt.alloc(), text) {
-        Err(TextFault::BadDigit(place)) => Some(place),
-        _ => None,
+// What a call makes of these words, which fit it.
+fn made(
+    rt: &(impl Abort + AllocGlobal),
+    call: Call,
+    first: &Bits,
+    second: &Bits,
+) -> Result<Bits, NoMemory> {
+    let alloc = rt.alloc();
+    let width = first.width();
+    assert!(rt; width == second.width() || !matches!(call, Call::And | Call::Or | Call::Xor));
+    match call {
+        Call::Copy => first.copy(alloc),
+        Call::And => first.and(alloc, second),
+        Call::Or => first.or(alloc, second),
+        Call::Xor => first.xor(alloc, second),
+        Call::Not => first.not(alloc),
+        Call::Concat => {
+            assert!(rt; width + second.width() <= 65_536);
+            first.concat(alloc, second)
+        }
+        Call::Slice { at, width: bits } => {
+            assert!(rt; at <= width && bits <= width - at);
+            first.slice(alloc, at, bits)
+        }
+        Call::Extend {
+            width: bits,
+            signed,
+        } => {
+            assert!(rt; 0 < width && bits <= 65_536);
+            first.extend(alloc, bits, signed)
+        }
+        Call::Shl(by) => first.shl(alloc, by),
+        Call::Shr { by, fill } => first.shr(alloc, by, fill),
     }
 }
 
 #[test]
-fn texts(rt: HostRuntime) {
-    let six = word(&rt, b"0110");
-    assert_eq!(rt; six.width(), 4);
-    assert_eq!(rt; six.bits(), [false, true, true, false].as_slice());
-    expect_word(&rt, Ok(six), b"0110");
-    expect_word(&rt, Ok(word(&rt, b"100")), b"100");
+fn calls(rt: HostRuntime) {
+    for (call, first, second, want) in CALLS {
+        let answer = made(&rt, call, &word(&rt, first), &word(&rt, second)).expect(&rt, "memory");
+        let text = answer.to_text(rt.alloc()).expect(&rt, "memory");
+        assert_eq!(rt;
+            text.as_slice(),
+            want.as_bytes(),
+            "{want} of {first} and {second}"
+        );
+    }
 }
 
 #[test]
-fn bad_digits(rt: HostRuntime) {
-    let table = [
-        (b"0110".as_slice(), None),
-        (b"x".as_slice(), Some(0)),
-        (b"01a0b".as_slice(), Some(2)),
-        (b"10/".as_slice(), Some(2)),
-        (b"12".as_slice(), Some(1)),
-    ];
-    for (text, want) in table {
-        assert_eq!(rt; bad_place(&rt, text), want);
+fn reductions(rt: HostRuntime) {
+    for (digits, all, any, odd) in REDUCTIONS {
+        let word = word(&rt, digits);
+        assert_eq!(rt; word.reduce_and(), all, "{digits}");
+        assert_eq!(rt; word.reduce_or(), any, "{digits}");
+        assert_eq!(rt; word.reduce_xor(), odd, "{digits}");
     }
 }
 
 #[test]
 fn numbers(rt: HostRuntime) {
-    let table = [
-        (1, 2, 0),
-        (1, 3, 1),
-        (4, 10, 10),
-        (4, 31, 15),
-        (127, u128::MAX, (1 << 127) - 1),
-        (128, u128::MAX, u128::MAX),
-        (128, 1 << 127, 1 << 127),
-    ];
-    for (width, number, want) in table {
+    for (width, number, want) in NUMBERS {
         assert!(rt; 1 <= width && width <= 128);
         let word = Bits::from_u128(rt.alloc(), width, number).expect(&rt, "memory");
         assert_eq!(rt; word.width(), width);
         assert!(rt; word.width() <= 128);
         assert_eq!(rt; word.to_u128(), want, "{number} at width {width}");
     }
-    expect_word(&rt, Bits::from_u128(rt.alloc(), 5, 10), b"01010");
+}
+
+#[test]
+fn bad_digits(rt: HostRuntime) {
+    for (text, want) in TEXTS {
+        assert!(rt; !text.is_empty());
+        assert!(rt; text.len() <= 65_536);
+        let place = match Bits::from_text(rt.alloc(), text.as_bytes()) {
+            Err(TextFault::BadDigit(place)) => Some(place),
+            _ => None,
+        };
+        assert_eq!(rt; place, want, "{text}");
+    }
 }
 
 #[test]
 fn single_bits(rt: HostRuntime) {
-    let mut six = word(&rt, b"0110");
-    assert!(rt; !six.get(0));
-    assert!(rt; six.get(1));
-    let copy = six.copy(rt.alloc()).expect(&rt, "memory");
-    assert!(rt; six.equals(&copy));
-    six.set(3, true);
-    six.set(1, false);
-    assert!(rt; !six.equals(&copy));
-    expect_word(&rt, Ok(six), b"1100");
-    expect_word(&rt, Ok(copy), b"0110");
-}
-
-#[test]
-fn from_a_list(rt: HostRuntime) {
-    let lowest_first = [true, false, false]
+    let lowest_first = [false, true, true, false]
         .to_vec(rt.alloc())
         .expect(&rt, "memory");
-    expect_word(&rt, Ok(Bits::of(lowest_first)), b"001");
+    let mut six = Bits::of(lowest_first);
+    assert!(rt; six.equals(&word(&rt, "0110")));
+    assert!(rt; six.width() == 4);
+    assert!(rt; !six.get(0) && six.get(1));
+    six.set(3, true);
+    six.set(1, false);
+    assert!(rt; six.equals(&word(&rt, "1100")));
+    assert!(rt; !six.equals(&word(&rt, "0110")));
+    assert_eq!(rt; six.bits(), [false, false, true, true].as_slice());
 }
 
 #[test]
-fn bit_by_bit(rt: HostRuntime) {
-    let a = word(&rt, b"1100");
-    let b = word(&rt, b"1010");
-    expect_word(&rt, a.and(rt.alloc(), &b), b"1000");
-    expect_word(&rt, a.or(rt.alloc(), &b), b"1110");
-    expect_word(&rt, a.xor(rt.alloc(), &b), b"0110");
-    expect_word(&rt, b.not(rt.alloc()), b"0101");
-}
-
-#[test]
-fn reductions(rt: HostRuntime) {
-    let table = [
-        (b"0".as_slice(), false, false, false),
-        (b"1".as_slice(), true, true, true),
-        (b"01".as_slice(), false, true, true),
-        (b"11".as_slice(), true, true, false),
-        (b"0111".as_slice(), false, true, true),
-    ];
-    for (digits, all, any, odd) in table {
-        let word = word(&rt, digits);
-        assert_eq!(rt; word.reduce_and(), all);
-        assert_eq!(rt; word.reduce_or(), any);
-        assert_eq!(rt; word.reduce_xor(), odd);
-    }
-}
-
-#[test]
-fn parts(rt: HostRuntime) {
-    let low = word(&rt, b"01");
-    let high = word(&rt, b"110");
-    expect_word(&rt, low.concat(rt.alloc(), &high), b"11001");
-    expect_word(&rt, high.slice(rt.alloc(), 1, 2), b"11");
-    expect_word(&rt, high.slice(rt.alloc(), 0, 2), b"10");
-}
-
-#[test]
-fn extensions(rt: HostRuntime) {
-    let table = [
-        (b"110".as_slice(), 5, true, b"11110".as_slice()),
-        (b"110".as_slice(), 5, false, b"00110".as_slice()),
-        (b"01".as_slice(), 3, true, b"001".as_slice()),
-        (b"110".as_slice(), 2, true, b"10".as_slice()),
-    ];
-    for (digits, width, signed, want) in table {
-        assert!(rt; !digits.is_empty());
-        assert!(rt; width <= 65_536);
-        expect_word(
-            &rt,
-            word(&rt, digits).extend(rt.alloc(), width, signed),
-            want,
-        );
-    }
-}
-
-#[test]
-fn shifts(rt: HostRuntime) {
-    let table = [
-        (0, b"1001", b"1001", b"1001"),
-        (1, b"0010", b"0100", b"1100"),
-        (3, b"1000", b"0001", b"1111"),
-        (4, b"0000", b"0000", b"1111"),
-        (u32::MAX, b"0000", b"0000", b"1111"),
-    ];
-    let word = word(&rt, b"1001");
-    for (by, left, right, filled) in table {
-        expect_word(&rt, word.shl(rt.alloc(), by), left);
-        expect_word(&rt, word.shr(rt.alloc(), by, false), right);
-        expect_word(&rt, word.shr(rt.alloc(), by, true), filled);
-    }
-}
-
-#[test]
-fn no_bits(rt: HostRuntime) {
+fn no_bits_and_most(rt: HostRuntime) {
     let none = Bits::zeros(rt.alloc(), 0).expect(&rt, "memory");
     assert_eq!(rt; none.width(), 0);
     assert_eq!(rt; none.to_u128(), 0);
-    assert!(rt; none.reduce_and());
-    assert!(rt; !none.reduce_or());
-    assert!(rt; !none.reduce_xor());
-    expect_word(&rt, none.not(rt.alloc()), b"");
-    expect_word(&rt, none.shl(rt.alloc(), 1), b"");
-    expect_word(&rt, none.shr(rt.alloc(), 1, true), b"");
-}
-
-#[test]
-fn most_bits(rt: HostRuntime) {
+    assert!(rt; none.reduce_and() && !none.reduce_or() && !none.reduce_xor());
+    let shifted = none.shr(rt.alloc(), 1, true).expect(&rt, "memory");
+    assert!(rt; shifted.equals(&none));
     let widest = Bits::zeros(rt.alloc(), 65_536).expect(&rt, "memory");
     assert_eq!(rt; widest.width(), 65_536);
     assert!(rt; !widest.reduce_or());

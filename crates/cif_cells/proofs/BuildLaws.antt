@@ -15,22 +15,24 @@ use Rattle.cif_defs.specs.declared.raw_module.RawBit.{RawBit}
 use Rattle.cif_defs.specs.declared.raw_module.RawBit.TheVariants.{Net, Zero, One, X, Z}
 use Rattle.cif_defs.specs.declared.raw_module.RawCell.{RawCell}
 use Rattle.cif_defs.specs.declared.raw_module.Raw.{Raw}
-use Rattle.cif_cells.specs.Checks.{◌else_by◌, fault_if, first_fault, counts_fault, ports_fault, cells_fault, drivers_fault, driven_numbers, is_twice, clocks_fault, reads_fault, inits_fault, build_fault, ClockUse, IsAccepted, IsFirst}
+use Rattle.cif_defs.specs.Order.{IsInOrder}
+use Rattle.cif_checks.specs.Checks.{◌else_by◌, fault_if, first_fault, counts_fault, ports_fault, cells_fault, drivers_fault, driven_numbers, is_twice, clocks_fault, reads_fault, inits_fault, build_fault, ClockUse, IsAccepted, IsFirst}
 use Rattle.cif_cells.specs.Building.{clock_number, driver_read, driver_with, first_number, is_number, later_faults, net_number}
 use Rattle.cif_cells.specs.ClockBit.{clock_of}
-use Rattle.cif_cells.specs.Clocks.{first_edge, uses_of}
-use Rattle.cif_cells.specs.Drives.{driven_by}
+use Rattle.cif_nets.specs.Clocks.{first_edge, uses_of}
+use Rattle.cif_nets.specs.Drives.{driven_by}
 use Rattle.cif_cells.specs.NetlistView.{Holds}
-use Rattle.cif_cells.specs.Wires.{HoldsWires, Wires}
-use Rattle.cif_cells.specs.Nets.{driver_or_clock, first_faults, is_several}
-use Rattle.cif_cells.specs.declared.clock.ClockEdge.{ClockEdge}
-use Rattle.cif_cells.specs.declared.fault.BuildFault.{BuildFault}
-use Rattle.cif_cells.specs.declared.fault.BuildFault.TheVariants.{MultiDriven}
-use Rattle.cif_cells.proofs.Places.{Has}
-use Rattle.cif_cells.proofs.Passed.{all_uses, each_passes, test_passes}
-use Rattle.cif_cells.proofs.FirstFaults.{IsFirst-left, IsFirst-right, IsFirst-same, both_pass}
-use Rattle.cif_cells.proofs.Wired.{wired}
-use Rattle.cif_cells.proofs.NetLaws.{driver_of_state, several_is_twice}
+use Rattle.cif_cells.specs.Wires.{HoldsWires}
+use Rattle.cif_cells.specs.declared.finding.Wires.{Wires}
+use Rattle.cif_nets.specs.Nets.{driver_or_clock, first_faults, is_several}
+use Rattle.cif_nets.specs.declared.clock.ClockEdge.{ClockEdge}
+use Rattle.cif_checks.specs.declared.fault.BuildFault.{BuildFault}
+use Rattle.cif_checks.specs.declared.fault.BuildFault.TheVariants.{MultiDriven}
+use Rattle.cif_nets.proofs.Places.{Has}
+use Rattle.cif_nets.proofs.Passed.{all_uses, each_passes, test_passes}
+use Rattle.cif_checks.proofs.FirstFaults.{IsFirst-left, IsFirst-right, IsFirst-same, both_pass}
+use Rattle.cif_nets.proofs.Wired.{wired}
+use Rattle.cif_nets.proofs.NetLaws.{driver_of_state, several_is_twice}
 
 -- ---- the clock
 
@@ -104,15 +106,16 @@ no_fault nets a b c h = all_faults nets ∙ both_pass (first_faults nets) (later
 -- ---- what is put together
 
 pub holds : (nets raw seen : Raw) (ns : List ℕ) (in_ports out_ports : List RawPort) (raw_cells : List RawCell) (inputs outputs : List Wire) (cells : List Cell) (drivers : List Driver) (initial : List Word) (clock : Option ℕ) (wires : Wires)
-    → raw ≡ nets → seen ≡ nets → IsAccepted nets → length nets.cells ≤ 400000 → length (net_numbers nets) ≤ 4194304
+    → raw ≡ nets → seen ≡ nets → IsInOrder nets → IsAccepted nets → length nets.cells ≤ 400000 → length (net_numbers nets) ≤ 4194304
     → ns ≡ net_numbers nets → in_ports ≡ seen.ports → out_ports ≡ seen.ports → raw_cells ≡ seen.cells
     → inputs ≡ map (wire_of ns) (filter is_input in_ports) → outputs ≡ map (wire_of ns) (filter is_output out_ports) → cells ≡ map (cell_of ns) raw_cells
     → drivers ≡ (netlist_of nets).drivers → initial ≡ map (initial_of ns seen.names) seen.cells → clock ≡ clock_of nets → HoldsWires nets wires
     → Holds raw inputs outputs cells drivers initial clock wires
 unfolding netlist_of
-holds nets raw seen ns in_ports out_ports raw_cells inputs outputs cells drivers initial clock wires same at accepted few bits qn qi qo qc hi ho hc hd hs hk hw =
+holds nets raw seen ns in_ports out_ports raw_cells inputs outputs cells drivers initial clock wires same at order accepted few bits qn qi qo qc hi ho hc hd hs hk hw =
     let P : Raw → Type 0 = λ r. Holds r inputs outputs cells drivers initial clock wires in
     subst P (sym same) (record {
+      in_order = order;
       accepted = accepted;
       wired = wired nets accepted;
       few_cells = (let e : length (map (cell_of (net_numbers nets)) nets.cells) ≡ length nets.cells = length-map nets.cells (cell_of (net_numbers nets)) in omega arith);

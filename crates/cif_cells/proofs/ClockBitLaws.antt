@@ -21,12 +21,12 @@ use Rattle.cif_defs.specs.declared.raw_module.RawCell.{RawCell}
 use Rattle.cif_defs.specs.declared.raw_module.RawPort.{RawPort}
 use Rattle.cif_defs.specs.declared.raw_module.Raw.{Raw}
 use Rattle.cif_cells.specs.Building.{clock_number, first_number}
-use Rattle.cif_cells.specs.Checks.{◌else_by◌, fault_if, first_fault, cell_fault, cells_fault, known_cell_fault, parameters_fault, memory_form, zero_width, too_wide, missing_port, wrong_width, constant_output, row_width, memory_bits_fault, clock_fault, clock_uses, clocks_fault, data_fault, is_clock_input, is_same_bit, uses_fault, ClockUse, IsAccepted}
+use Rattle.cif_checks.specs.Checks.{◌else_by◌, fault_if, first_fault, cell_fault, cells_fault, known_cell_fault, parameters_fault, memory_form, zero_width, too_wide, missing_port, wrong_width, constant_output, row_width, memory_bits_fault, clock_fault, clock_uses, clocks_fault, data_fault, is_clock_input, is_same_bit, uses_fault, ClockUse, IsAccepted}
 use Rattle.cif_cells.specs.ClockBit.{clock_among, clock_of, first_place, is_clocked, is_clocked_as, is_clocked_by}
-use Rattle.cif_cells.specs.declared.fault.BuildFault.TheVariants.{NoClockInput, TwoClocks, WidthMismatch}
-use Rattle.cif_cells.proofs.FewBits.{known_passes}
-use Rattle.cif_cells.proofs.Passed.{all_uses, each_passes, first_passes, next_passes, passed, test_passes}
-use Rattle.cif_cells.proofs.Places.{Has, Has-left, Has-right}
+use Rattle.cif_checks.specs.declared.fault.BuildFault.TheVariants.{NoClockInput, TwoClocks, WidthMismatch}
+use Rattle.cif_nets.proofs.FewBits.{known_passes}
+use Rattle.cif_nets.proofs.Passed.{all_uses, each_passes, first_passes, next_passes, passed, test_passes}
+use Rattle.cif_nets.proofs.Places.{Has, Has-left, Has-right}
 
 -- ---- the clock ports of a cell that passes its checks
 

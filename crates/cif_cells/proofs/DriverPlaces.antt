@@ -12,12 +12,12 @@ use Rattle.cif_defs.specs.declared.kinds.Role.TheVariants.{PlainRegister, ResetR
 use Rattle.cif_defs.specs.declared.kinds.Param.TheVariants.{RdPorts}
 use Rattle.cif_defs.specs.declared.nets.Driver.TheVariants.{Register, Read}
 use Rattle.cif_defs.specs.declared.raw_module.Raw.{Raw}
-use Rattle.cif_cells.specs.Checks.{IsAccepted}
-use Rattle.cif_cells.specs.RegisterKinds.{is_register}
+use Rattle.cif_checks.specs.Checks.{IsAccepted}
+use Rattle.cif_defs.specs.Kinds.{is_register}
 use Rattle.cif_cells.proofs.FittedCells.{fitted}
 use Rattle.cif_cells.proofs.MemoryCells.{read_data_width}
-use Rattle.cif_cells.proofs.RegisterCells.{q_width}
-use Rattle.cif_cells.proofs.Wired.{wired}
+use Rattle.cif_kinds.proofs.RegisterCells.{q_width}
+use Rattle.cif_nets.proofs.Wired.{wired}
 
 le_or_lt : (x y : ℕ) → (y < x) ⊎ (x ≤ y)
 le_or_lt x y = search arith

@@ -1,32 +1,27 @@
--- Wires kept by name, one name after another.
-use Rattle.std.specs.Prelude.{ℕ, ◌+◌, ◌<◌, ◌≡◌, Bool, true, false, not, ◌&&◌, List, [], ◌∷◌, ◌++◌, length, get_or, take, map, bytes_eq, Option, Some, None, option_map, is_some, refl}
-use Rattle.std.specs.BTreeMap as tree
-use Rattle.std.specs.BTreeMap.{is_at}
-use Rattle.std.specs.Cmp.Lexicographic.{slice_cmp}
-use Rattle.std.specs.Global.{Vec}
-use Rattle.std.specs.Map.{lookup, IsKeyTest, AreApart, KeepsOthers}
-use Rattle.std.specs.Option.{option_or}
-use Rattle.std.specs.Ordering.{is_eq, nat_cmp, eq_by_cmp}
-use Rattle.std.proofs.Common.{sym, ap, ◌∙◌, subst, cond}
-use Rattle.std.proofs.lemmas.Cmp.{eq_by_cmp_equiv, nat_list_cmp_total, nat_list_eq_equiv}
-use Rattle.std.proofs.lemmas.List.{map-append, take_more}
-use Rattle.std.proofs.lemmas.Map.Text.{is_eq-slice_cmp}
+-- What stands under a name, found by its place among names in byte order.
+use Rattle.std.specs.Prelude.{ℕ, zero, suc, ◌+◌, ◌<◌, ◌≡◌, Bool, true, false, not, ◌&&◌, List, [], ◌∷◌, ◌++◌, length, get_or, map, bytes_eq, Option, Some, None, option_map, is_some, refl}
+use Rattle.std.specs.List.{position_from}
+use Rattle.std.proofs.Common.{arith, sym, ap, ◌∙◌, subst, cond}
+use Rattle.std.proofs.lemmas.List.{append-nil, get_or-map, length-map}
 use Rattle.std.proofs.lemmas.Slice.Eq.{bytes_eq-Decides}
 use Rattle.cif_defs.specs.Accepted.{all_clock_bits, driven, driver_in, is_clock}
+use Rattle.cif_defs.specs.Order.{place_among}
 use Rattle.cif_defs.specs.declared.nets.Wire.{Wire}
+use Rattle.cif_defs.specs.declared.raw_module.Direction.TheVariants.{Input}
 use Rattle.cif_defs.specs.declared.raw_module.RawBit.{RawBit}
 use Rattle.cif_defs.specs.declared.raw_module.RawBit.TheVariants.{Net}
 use Rattle.cif_defs.specs.declared.raw_module.RawName.{RawName}
 use Rattle.cif_defs.specs.declared.raw_module.RawPort.{RawPort}
 use Rattle.cif_defs.specs.declared.raw_module.Raw.{Raw}
 use Rattle.cif_cells.specs.Building.{clock_number, is_number}
-use Rattle.cif_cells.specs.Drives.{driven_by}
-use Rattle.cif_cells.specs.Finding.{Named, bits_under, found_as, found_of, is_two_valued, name_named, port_named, wire_if}
-use Rattle.cif_cells.specs.Nets.{is_driven}
-use Rattle.cif_cells.specs.declared.drives.DrivenBy.{DrivenBy}
-use Rattle.cif_cells.specs.Wires.{AddsWires, HoldsWires, Wires, wire_among, wire_at}
+use Rattle.cif_nets.specs.Drives.{driven_by}
+use Rattle.cif_cells.specs.Finding.{Named, all_named, bits_under, found_as, found_of, is_two_valued, missing, name_named, port_named, wire_if}
+use Rattle.cif_nets.specs.Nets.{is_driven}
+use Rattle.cif_nets.specs.declared.drives.DrivenBy.{DrivenBy}
+use Rattle.cif_cells.specs.Wires.{HoldsWires, wire_of_name, wire_of_port}
+use Rattle.cif_cells.specs.declared.finding.Wires.{Wires}
 use Rattle.cif_cells.proofs.BuildLaws.{first_is_number}
-use Rattle.cif_cells.proofs.NetLaws.{driven_has_driver}
+use Rattle.cif_nets.proofs.NetLaws.{driven_has_driver}
 
 -- ---- numbers
 
@@ -42,111 +37,142 @@ number_has_value raw clock bit x at_clock value drive is e at other d v =
     let here : is_clock raw x ≡ false = sym (clock_is_number raw clock x e) ∙ sym at ∙ other in
     v ∙ ap is_driven d ∙ has_driver raw x ∙ sym (ap (λ b. not b && is_some (driver_in (driven raw) x)) here) ∙ ap (is_two_valued raw) (sym is)
 
--- ---- what is kept, in order
+-- ---- the bits under a name, by its place
 
-abbrev Kept : Type 0
-Kept = Option (Option Wire)
+abbrev has_name : {A : Type 0} → (A → List ℕ) → List ℕ → A → Bool
+has_name name_of name x = bytes_eq (name_of x) name
 
-or_none : (o : Kept) → o ≡ option_or o None
-or_none None = refl
-or_none (Some w) = refl
+-- where a name stands, and what stands under it
+record StandsAt {A : Type 0} (name_of : A → List ℕ) (bits_of : A → List RawBit) (xs : List A) (rest : List Named) (name : List ℕ) (d : A) (q : ℕ) : Type 0 where
+  inside : q < length xs
+  named : name_of (get_or xs q d) ≡ name
+  bits : bits_under name (map (λ x. (name_of x, bits_of x)) xs ++ rest) ≡ Some (bits_of (get_or xs q d))
 
-or_assoc : (a b c : Kept) → option_or (option_or a b) c ≡ option_or a (option_or b c)
-or_assoc None b c = refl
-or_assoc (Some w) b c = refl
+abbrev StandsFrom : {A : Type 0} → (A → List ℕ) → (A → List RawBit) → List A → List Named → List ℕ → A → ℕ → ℕ → Type 0
+StandsFrom name_of bits_of xs rest name d i p = (q : ℕ) × (p ≡ i + q) × StandsAt name_of bits_of xs rest name d q
 
-among_by : (f : List RawBit → Option Wire) (b : Bool) (bits : List RawBit) (both one : Option (List RawBit)) (rest : Kept) → option_map f both ≡ option_or (option_map f one) rest
-    → option_map f (cond b (Some bits) both) ≡ option_or (option_map f (cond b (Some bits) one)) rest
-among_by f true bits both one rest h = refl
-among_by f false bits both one rest h = h
+stands_by : {A : Type 0} (name_of : A → List ℕ) (bits_of : A → List RawBit) (x : A) (xs : List A) (rest : List Named) (name : List ℕ) (d : A) (i p : ℕ) (b : Bool) → has_name name_of name x ≡ b
+    → cond b (Some i) (position_from (has_name name_of name) (i + 1) xs) ≡ Some p
+    → (position_from (has_name name_of name) (i + 1) xs ≡ Some p → StandsFrom name_of bits_of xs rest name d (i + 1) p)
+    → StandsFrom name_of bits_of (x ∷ xs) rest name d i p
+stands_by name_of bits_of x xs rest name d i p true e h later =
+    let at : i ≡ p = (cc) in (
+      0,
+      (let z : p ≡ i + 0 = omega arith in z),
+      record {
+        inside = omega arith;
+        named = (bytes_eq-Decides (name_of x) name).0 e;
+        bits = ap (λ b. cond b (Some (bits_of x)) (bits_under name (map (λ y. (name_of y, bits_of y)) xs ++ rest))) e;
+      },
+    )
+stands_by name_of bits_of x xs rest name d i p false e h later =
+    let r = later h in (
+      suc r.0,
+      (let z : p ≡ i + 1 + r.0 = r.1 in let y : p ≡ i + suc r.0 = omega arith in y),
+      record {
+        inside = (let l : r.0 < length xs = r.2.inside in omega arith);
+        named = r.2.named;
+        bits = ap (λ b. cond b (Some (bits_of x)) (bits_under name (map (λ y. (name_of y, bits_of y)) xs ++ rest))) e ∙ r.2.bits;
+      },
+    )
 
-among-append : (raw : Raw) (named more : List Named) (name : List ℕ) → wire_among raw (named ++ more) name ≡ option_or (wire_among raw named name) (wire_among raw more name)
-among-append raw [] more name = refl
-among-append raw (e ∷ named) more name =
-    among_by (wire_if raw name) (bytes_eq e.0 name) e.1 (bits_under name (named ++ more)) (bits_under name named) (wire_among raw more name) (among-append raw named more name)
+stands_from : {A : Type 0} (name_of : A → List ℕ) (bits_of : A → List RawBit) (xs : List A) (rest : List Named) (name : List ℕ) (d : A) (i p : ℕ) → position_from (has_name name_of name) i xs ≡ Some p → StandsFrom name_of bits_of xs rest name d i p
+stands_from name_of bits_of [] rest name d i p h = absurd (cc)
+stands_from name_of bits_of (x ∷ xs) rest name d i p h = stands_by name_of bits_of x xs rest name d i p (has_name name_of name x) refl h (λ k. stands_from name_of bits_of xs rest name d (i + 1) p k)
 
-pub adds_none : (raw : Raw) (wires : Wires) → AddsWires raw wires wires []
-adds_none raw wires name = or_none (wire_at wires name)
+stands_at : {A : Type 0} (name_of : A → List ℕ) (bits_of : A → List RawBit) (xs : List A) (rest : List Named) (name : List ℕ) (d : A) (p : ℕ) → place_among name_of xs name ≡ Some p → StandsAt name_of bits_of xs rest name d p
+unfolding place_among
+stands_at name_of bits_of xs rest name d p h =
+    let r = stands_from name_of bits_of xs rest name d 0 p h in
+    let same : r.0 ≡ p = (let e : p ≡ 0 + r.0 = r.1 in omega arith) in
+    subst (StandsAt name_of bits_of xs rest name d) same r.2
 
-pub adds_more : (raw : Raw) (a b c : Wires) (named more : List Named) → AddsWires raw a b named → AddsWires raw b c more → AddsWires raw a c (named ++ more)
-adds_more raw a b c named more h k name =
-    k name ∙ ap (λ (o : Kept). option_or o (wire_among raw more name)) (h name)
-    ∙ or_assoc (wire_at a name) (wire_among raw named name) (wire_among raw more name)
-    ∙ ap (option_or (wire_at a name)) (sym (among-append raw named more name))
+absent_by : {A : Type 0} (name_of : A → List ℕ) (bits_of : A → List RawBit) (x : A) (xs : List A) (rest : List Named) (name : List ℕ) (i : ℕ) (b : Bool) → has_name name_of name x ≡ b
+    → cond b (Some i) (position_from (has_name name_of name) (i + 1) xs) ≡ None
+    → (position_from (has_name name_of name) (i + 1) xs ≡ None → bits_under name (map (λ y. (name_of y, bits_of y)) xs ++ rest) ≡ bits_under name rest)
+    → bits_under name (map (λ y. (name_of y, bits_of y)) (x ∷ xs) ++ rest) ≡ bits_under name rest
+absent_by name_of bits_of x xs rest name i true e h later = absurd (cc)
+absent_by name_of bits_of x xs rest name i false e h later = ap (λ b. cond b (Some (bits_of x)) (bits_under name (map (λ y. (name_of y, bits_of y)) xs ++ rest))) e ∙ later h
 
--- ---- one name
+absent_from : {A : Type 0} (name_of : A → List ℕ) (bits_of : A → List RawBit) (xs : List A) (rest : List Named) (name : List ℕ) (i : ℕ) → position_from (has_name name_of name) i xs ≡ None → bits_under name (map (λ y. (name_of y, bits_of y)) xs ++ rest) ≡ bits_under name rest
+absent_from name_of bits_of [] rest name i h = refl
+absent_from name_of bits_of (x ∷ xs) rest name i h = absent_by name_of bits_of x xs rest name i (has_name name_of name x) refl h (λ k. absent_from name_of bits_of xs rest name (i + 1) k)
 
-some_stays : (o w : Kept) → true ≡ is_some o → o ≡ option_or o w
-some_stays None w h = absurd (cc)
-some_stays (Some x) w h = refl
+absent : {A : Type 0} (name_of : A → List ℕ) (bits_of : A → List RawBit) (xs : List A) (rest : List Named) (name : List ℕ) → place_among name_of xs name ≡ None → bits_under name (map (λ y. (name_of y, bits_of y)) xs ++ rest) ≡ bits_under name rest
+unfolding place_among
+absent name_of bits_of xs rest name h = absent_from name_of bits_of xs rest name 0 h
 
-none_is : (o : Kept) → false ≡ is_some o → o ≡ None
-none_is None h = refl
-none_is (Some x) h = absurd (cc)
+-- ---- what is found
 
-stays_by : (raw : Raw) (wires : Wires) (name asked : List ℕ) (bits : List RawBit) (b : Bool) → bytes_eq name asked ≡ b → true ≡ is_some (wire_at wires name)
-    → wire_at wires asked ≡ option_or (wire_at wires asked) (option_map (wire_if raw asked) (cond b (Some bits) None))
-stays_by raw wires name asked bits true e h =
-    some_stays (wire_at wires asked) (Some (wire_if raw asked bits)) (h ∙ ap (λ (n : List ℕ). is_some (wire_at wires n)) ((bytes_eq-Decides name asked).0 e))
-stays_by raw wires name asked bits false e h = or_none (wire_at wires asked)
+abbrev name_of_net : RawName → List ℕ
+name_of_net n = n.name
 
--- a name that is there stays as it is
-pub stays : (raw : Raw) (wires : Wires) (name : List ℕ) (bits : List RawBit) → true ≡ is_some (wire_at wires name) → AddsWires raw wires wires ((name, bits) ∷ [])
-stays raw wires name bits h asked =
-    stays_by raw wires name asked bits (bytes_eq name asked) refl h
+abbrev bits_of_net : RawName → List RawBit
+bits_of_net n = n.bits
 
-apart : (name asked other : List ℕ) → bytes_eq name asked ≡ false → is_eq (slice_cmp nat_cmp name other) ≡ true → is_eq (slice_cmp nat_cmp asked other) ≡ false
-apart name asked other n y =
-    is_eq-slice_cmp asked other ∙ nat_list_eq_equiv.symm asked other ∙ sym (nat_list_eq_equiv.congr name other asked (sym (is_eq-slice_cmp name other) ∙ y)) ∙ n
+abbrev name_of_port : RawPort → List ℕ
+name_of_port p = p.name
 
-other_entries : (test : Vec ℕ → Bool) (old new : List (Vec ℕ × Option Wire)) → KeepsOthers (eq_by_cmp (λ (x y : Vec ℕ). slice_cmp nat_cmp x.items y.items)) test old new
-    → (other : Vec ℕ → Bool) → IsKeyTest (eq_by_cmp (λ (x y : Vec ℕ). slice_cmp nat_cmp x.items y.items)) other → AreApart test other → lookup other new ≡ lookup other old
-unfolding KeepsOthers
-other_entries test old new h = h
+abbrev bits_of_port : RawPort → List RawBit
+bits_of_port p = p.bits
 
-added_by : (raw : Raw) (old new : Wires) (name asked : List ℕ) (bits : List RawBit) (b : Bool) → bytes_eq name asked ≡ b → false ≡ is_some (wire_at old name)
-    → wire_at new name ≡ Some (wire_if raw name bits) → (bytes_eq name asked ≡ false → wire_at new asked ≡ wire_at old asked)
-    → wire_at new asked ≡ option_or (wire_at old asked) (option_map (wire_if raw asked) (cond b (Some bits) None))
-added_by raw old new name asked bits true e absent here others =
-    let same = (bytes_eq-Decides name asked).0 e in
-    let P : List ℕ → Type 0 = λ n. wire_at new n ≡ option_or (wire_at old n) (Some (wire_if raw n bits)) in
-    subst P same (here ∙ ap (λ (o : Kept). option_or o (Some (wire_if raw name bits))) (sym (none_is (wire_at old name) absent)))
-added_by raw old new name asked bits false e absent here others = others e ∙ or_none (wire_at old asked)
+-- what is kept of some names, each with its bits
+abbrev wires_from : {A : Type 0} → Raw → (A → List ℕ) → (A → List RawBit) → List A → List (Option Wire)
+wires_from {A} raw name_of bits_of xs = map (λ (x : A). wire_if raw (name_of x) (bits_of x)) xs
 
--- a name that isn't there is added
-pub added : (raw : Raw) (old new : Wires) (key : Vec ℕ) (wire : Option Wire) (name : List ℕ) (bits : List RawBit) → false ≡ is_some (wire_at old name) → key.items ≡ name → wire ≡ wire_if raw name bits
-    → tree.Updates (λ (x y : Vec ℕ). slice_cmp nat_cmp x.items y.items) old new key (Some wire) → AddsWires raw old new ((name, bits) ∷ [])
-added raw old new key wire name bits absent same w h asked =
-    let P : List ℕ → Type 0 = λ n. wire_at new n ≡ Some wire in
-    let here : wire_at new name ≡ Some wire = subst P same h.1 in
-    added_by raw old new name asked bits (bytes_eq name asked) refl absent (here ∙ ap (λ (v : Option Wire). Some v) w)
-    (λ e. other_entries (is_at (λ (k : Vec ℕ). slice_cmp nat_cmp key.items k.items)) old.entries new.entries h.3 (is_at (λ (k : Vec ℕ). slice_cmp nat_cmp asked k.items))
-    (λ x y. (eq_by_cmp_equiv nat_list_cmp_total).congr asked x.items y.items) (λ k. apart key.items asked k.items (ap (λ (n : List ℕ). bytes_eq n asked) same ∙ e)))
+is_inside : {A : Type 0} (raw : Raw) (name_of : A → List ℕ) (bits_of : A → List RawBit) (xs : List A) (name : List ℕ) (d : A) (p : ℕ) (wires : List (Option Wire)) → wires ≡ wires_from raw name_of bits_of xs → place_among name_of xs name ≡ Some p → p < length wires
+is_inside raw name_of bits_of xs name d p wires e h =
+    let stands = stands_at name_of bits_of xs [] name d p h in
+    let long : length wires ≡ length xs = ap length e ∙ length-map xs (λ x. wire_if raw (name_of x) (bits_of x)) in
+    let inside : p < length xs = stands.inside in
+    omega arith
 
--- ---- all names
+kept_is : {A : Type 0} (raw : Raw) (name_of : A → List ℕ) (bits_of : A → List RawBit) (xs : List A) (rest : List Named) (name : List ℕ) (d : A) (p : ℕ) (wires : List (Option Wire)) (kept : Option Wire)
+    → wires ≡ wires_from raw name_of bits_of xs → kept ≡ get_or wires p kept → place_among name_of xs name ≡ Some p
+    → option_map (wire_if raw name) (bits_under name (map (λ x. (name_of x, bits_of x)) xs ++ rest)) ≡ Some kept
+kept_is raw name_of bits_of xs rest name d p wires kept e k h =
+    let stands = stands_at name_of bits_of xs rest name d p h in
+    let here : kept ≡ wire_if raw (name_of (get_or xs p d)) (bits_of (get_or xs p d)) =
+    k ∙ ap (λ (ws : List (Option Wire)). get_or ws p kept) e ∙ get_or-map (λ x. wire_if raw (name_of x) (bits_of x)) xs p d kept stands.inside in
+    let named : wire_if raw (name_of (get_or xs p d)) (bits_of (get_or xs p d)) ≡ wire_if raw name (bits_of (get_or xs p d)) =
+    ap (λ n. wire_if raw n (bits_of (get_or xs p d))) stands.named in
+    ap (option_map (wire_if raw name)) stands.bits ∙ ap (λ (w : Option Wire). Some w) (sym (here ∙ named))
 
-empty_at : (wires : Wires) (name : List ℕ) → wires.entries ≡ [] → wire_at wires name ≡ None
-empty_at wires name h = ap (lookup (is_at (λ (k : Vec ℕ). slice_cmp nat_cmp name k.items))) h
+no_net : RawName
+no_net = record { name = []; hide = false; bits = []; attributes = [] }
 
-pub all_added : (raw seen : Raw) (empty some all : Wires) (names : List RawName) (ports : List RawPort) → empty.entries ≡ [] → seen ≡ raw → names ≡ seen.names → ports ≡ seen.ports
-    → AddsWires raw empty some (map name_named names) → AddsWires raw some all (map port_named ports) → HoldsWires raw all
-all_added raw seen empty some all names ports none same qn qp hn hp name =
-    adds_more raw empty some all (map name_named names) (map port_named ports) hn hp name
-    ∙ ap (λ (o : Kept). option_or o (wire_among raw (map name_named names ++ map port_named ports) name)) (empty_at empty name none)
-    ∙ ap (λ (ns : List RawName). wire_among raw (map name_named ns ++ map port_named ports) name) (qn ∙ ap (λ (r : Raw). r.names) same)
-    ∙ ap (λ (ps : List RawPort). wire_among raw (map name_named raw.names ++ map port_named ps) name) (qp ∙ ap (λ (r : Raw). r.ports) same)
+no_port : RawPort
+no_port = record { name = []; direction = Input; bits = [] }
 
-pub pair_is : (e : Named) (name : List ℕ) (bits : List RawBit) → name ≡ e.0 → bits ≡ e.1 → e ≡ (name, bits)
-pair_is e name bits p q = ap (λ (n : List ℕ). (n, e.1)) (sym p) ∙ ap (λ (bs : List RawBit). (name, bs)) (sym q)
+pub name_inside : (raw : Raw) (wires : Wires) (names : List RawName) (name : List ℕ) (p : ℕ) → names ≡ raw.names → HoldsWires raw wires → place_among name_of_net names name ≡ Some p → p < length wires.names.items
+name_inside raw wires names name p e h at = is_inside raw name_of_net bits_of_net raw.names name no_net p wires.names.items h.names (ap (λ (ns : List RawName). place_among name_of_net ns name) (sym e) ∙ at)
 
-pub one_more : {A : Type 0} (f : A → Named) (raw : Raw) (a b c : Wires) (xs : List A) (i : ℕ) (x d : A) (name : List ℕ) (bits : List RawBit) → i < length xs → x ≡ get_or xs i d → f x ≡ (name, bits)
-    → AddsWires raw a b (map f (take i xs)) → AddsWires raw b c ((name, bits) ∷ []) → AddsWires raw a c (map f (take (i + 1) xs))
-one_more f raw a b c xs i x d name bits l is named h k =
-    let P : List Named → Type 0 = λ es. AddsWires raw a c es in
-    let same : map f (take i xs) ++ (name, bits) ∷ [] ≡ map f (take (i + 1) xs) =
-    sym (ap (map f) (take_more xs i d l) ∙ map-append f (take i xs) (get_or xs i d ∷ []) ∙ ap (λ (e : Named). map f (take i xs) ++ e ∷ []) (sym (ap f is) ∙ named)) in
-    subst P same (adds_more raw a b c (map f (take i xs)) ((name, bits) ∷ []) h k)
+pub port_inside : (raw : Raw) (wires : Wires) (ports : List RawPort) (name : List ℕ) (p : ℕ) → ports ≡ raw.ports → HoldsWires raw wires → place_among name_of_port ports name ≡ Some p → p < length wires.ports.items
+port_inside raw wires ports name p e h at = is_inside raw name_of_port bits_of_port raw.ports name no_port p wires.ports.items h.ports (ap (λ (ps : List RawPort). place_among name_of_port ps name) (sym e) ∙ at)
 
-pub found_is : (raw seen : Raw) (wires : Wires) (name : List ℕ) → raw ≡ seen → HoldsWires raw wires → found_as (wire_at wires name) ≡ found_of seen name
+pub found_name : (raw : Raw) (wires : Wires) (names : List RawName) (name : List ℕ) (p : ℕ) (kept : Option Wire) → names ≡ raw.names → HoldsWires raw wires → place_among name_of_net names name ≡ Some p
+    → kept ≡ get_or wires.names.items p kept → found_as (Some kept) ≡ found_of raw name
 unfolding found_of
-found_is raw seen wires name same h = ap found_as (h name) ∙ ap (λ (r : Raw). found_of r name) same
+found_name raw wires names name p kept e h at k =
+    sym (ap found_as (kept_is raw name_of_net bits_of_net raw.names (map port_named raw.ports) name no_net p wires.names.items kept h.names k (ap (λ (ns : List RawName). place_among name_of_net ns name) (sym e) ∙ at)))
+
+-- where no netname has the name, ports alone count
+only_ports : (raw : Raw) (names : List RawName) (name : List ℕ) → names ≡ raw.names → place_among name_of_net names name ≡ None → bits_under name (all_named raw) ≡ bits_under name (map port_named raw.ports)
+only_ports raw names name e at = absent name_of_net bits_of_net raw.names (map port_named raw.ports) name (ap (λ (ns : List RawName). place_among name_of_net ns name) (sym e) ∙ at)
+
+pub found_port : (raw : Raw) (wires : Wires) (names : List RawName) (ports : List RawPort) (name : List ℕ) (p : ℕ) (kept : Option Wire) → names ≡ raw.names → ports ≡ raw.ports → HoldsWires raw wires
+    → place_among name_of_net names name ≡ None → place_among name_of_port ports name ≡ Some p → kept ≡ get_or wires.ports.items p kept → found_as (Some kept) ≡ found_of raw name
+unfolding found_of
+found_port raw wires names ports name p kept en ep h none at k =
+    let here = kept_is raw name_of_port bits_of_port raw.ports [] name no_port p wires.ports.items kept h.ports k (ap (λ (ps : List RawPort). place_among name_of_port ps name) (sym ep) ∙ at) in
+    let alone : option_map (wire_if raw name) (bits_under name (map port_named raw.ports)) ≡ Some kept =
+    ap (λ (all : List Named). option_map (wire_if raw name) (bits_under name all)) (sym (append-nil (map port_named raw.ports))) ∙ here in
+    sym (ap found_as (ap (option_map (wire_if raw name)) (only_ports raw names name en none) ∙ alone))
+
+pub found_none : (raw : Raw) (names : List RawName) (ports : List RawPort) (name : List ℕ) → names ≡ raw.names → ports ≡ raw.ports
+    → place_among name_of_net names name ≡ None → place_among name_of_port ports name ≡ None → missing ≡ found_of raw name
+unfolding found_of
+found_none raw names ports name en ep none at =
+    let gone : bits_under name (map port_named raw.ports) ≡ None =
+    ap (bits_under name) (sym (append-nil (map port_named raw.ports))) ∙ absent name_of_port bits_of_port raw.ports [] name (ap (λ (ps : List RawPort). place_among name_of_port ps name) (sym ep) ∙ at) in
+    sym (ap found_as (ap (option_map (wire_if raw name)) (only_ports raw names name en none ∙ gone)))

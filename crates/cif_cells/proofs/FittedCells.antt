@@ -21,14 +21,15 @@ use Rattle.cif_defs.specs.declared.kinds.PortRow.{PortRow}
 use Rattle.cif_defs.specs.declared.raw_module.RawBit.{RawBit}
 use Rattle.cif_defs.specs.declared.raw_module.RawCell.{RawCell}
 use Rattle.cif_defs.specs.declared.raw_module.Raw.{Raw}
-use Rattle.cif_cells.specs.Checks.{◌else_by◌, first_fault, cells_fault, cell_fault, cell_fault_by, known_cell_fault, parameters_fault, slice_fault, memory_form, zero_width, too_wide, missing_port, wrong_width, constant_output, is_wide_memory, may_be_empty, number_or_0, memory_bits_fault, IsAccepted}
-use Rattle.cif_cells.specs.Checks.{row_width as given_width}
+use Rattle.cif_checks.specs.Checks.{◌else_by◌, first_fault, cells_fault, cell_fault, cell_fault_by, known_cell_fault, parameters_fault, slice_fault, memory_form, zero_width, too_wide, missing_port, wrong_width, constant_output, is_wide_memory, may_be_empty, number_or_0, memory_bits_fault, IsAccepted}
+use Rattle.cif_checks.specs.Checks.{row_width as given_width}
 use Rattle.cif_cells.specs.NetlistView.{AreFitted}
-use Rattle.cif_cells.specs.declared.fault.BuildFault.{BuildFault}
-use Rattle.cif_cells.proofs.Passed.{first_passes, next_passes, test_passes, passed}
-use Rattle.cif_cells.proofs.FirstFaults.{first_fault-append}
-use Rattle.cif_cells.proofs.CellChecks.{limit_small, outputs_part}
-use Rattle.cif_cells.proofs.InitLaws.{is_plain, is_among, number_is}
+use Rattle.cif_checks.specs.declared.fault.BuildFault.{BuildFault}
+use Rattle.cif_nets.proofs.Passed.{first_passes, next_passes, test_passes, passed}
+use Rattle.cif_checks.proofs.FirstFaults.{first_fault-append}
+use Rattle.cif_checks.proofs.CellChecks.{limit_small, outputs_part}
+use Rattle.cif_nets.proofs.InitLaws.{is_plain, is_among, number_is}
+use Rattle.cif_kinds.proofs.OperandWidths.{length-at}
 
 -- ---- the widths of the table ask only for numbers that a cell of the kind keeps
 
@@ -261,11 +262,6 @@ unfolding AreFitted
 fitted_at cells h = h
 
 -- ---- no port of an accepted cell has more than 65,536 bits
-
-pub length-at : {A : Type 0} (xss : List (List A)) (p : ℕ) → length (get_or xss p []) ≡ get_or (map length xss) p 0
-length-at [] p = refl
-length-at (xs ∷ xss) zero = refl
-length-at (xs ∷ xss) (suc p) = length-at xss p
 
 abbrev IsNarrow : Cell → Type 0
 IsNarrow c = (p : ℕ) → (length (get_or c.operands p []) ≤ 65536) × (length (get_or c.outputs p []) ≤ 65536)

@@ -19,16 +19,16 @@ use Rattle.cif_defs.specs.declared.kinds.Param.{Param}
 use Rattle.cif_defs.specs.declared.kinds.Param.TheVariants.{Width, Size, Offset, Abits, RdPorts, WrPorts}
 use Rattle.cif_defs.specs.declared.raw_module.RawCell.{RawCell}
 use Rattle.cif_defs.specs.declared.raw_module.Raw.{Raw}
-use Rattle.cif_cells.specs.Checks.{known_cell_fault, cell_fault, cell_fault_by, number_or_0, IsAccepted}
+use Rattle.cif_checks.specs.Checks.{known_cell_fault, cell_fault, cell_fault_by, number_or_0, IsAccepted}
 use Rattle.cif_cells.specs.NetlistView.{HaveMemoryNumbers}
-use Rattle.cif_cells.specs.StateCells.{HasMemoryPorts, HasMemoryNumbers}
-use Rattle.cif_cells.proofs.CellChecks.{memory_narrow}
-use Rattle.cif_cells.proofs.FittedCells.{is_asked, number_kept, cell_passes, rows_below, each_cell, cells_pass, length-at}
-use Rattle.cif_cells.proofs.OperandWidths.{operand_width}
-use Rattle.cif_cells.proofs.Passed.{IsFormed, is_formed, known_memory, passed}
-use Rattle.cif_cells.proofs.RawLaws.{number_small}
+use Rattle.cif_kinds.specs.StateCells.{HasMemoryPorts, HasMemoryNumbers}
+use Rattle.cif_checks.proofs.CellChecks.{memory_narrow}
+use Rattle.cif_cells.proofs.FittedCells.{is_asked, number_kept, cell_passes, rows_below, each_cell, cells_pass}
+use Rattle.cif_kinds.proofs.OperandWidths.{length-at, operand_width}
+use Rattle.cif_nets.proofs.Passed.{IsFormed, is_formed, known_memory, passed}
+use Rattle.cif_checks.proofs.RawLaws.{number_small}
 use Rattle.cif_cells.proofs.StateLaws.{few_state_bits}
-use Rattle.cif_cells.proofs.Wired.{memory_kind}
+use Rattle.cif_nets.proofs.Wired.{memory_kind}
 
 -- ---- ports
 

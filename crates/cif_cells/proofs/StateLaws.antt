@@ -22,14 +22,14 @@ use Rattle.cif_defs.specs.declared.kinds.Param.{Param}
 use Rattle.cif_defs.specs.declared.kinds.Param.TheVariants.{Width, Size, Init}
 use Rattle.cif_defs.specs.declared.raw_module.RawCell.{RawCell}
 use Rattle.cif_defs.specs.declared.raw_module.Raw.{Raw}
-use Rattle.cif_cells.specs.Checks.{◌else_by◌, fault_if, IsAccepted, cells_fault, cell_fault, first_fault, memory_bits_fault, memory_limit, memory_size, memory_size_by, number_or_0}
-use Rattle.cif_cells.specs.declared.fault.BuildFault.TheVariants.{TooManyBits}
+use Rattle.cif_checks.specs.Checks.{◌else_by◌, fault_if, IsAccepted, cells_fault, cell_fault, first_fault, memory_bits_fault, memory_limit, memory_size, memory_size_by, number_or_0}
+use Rattle.cif_checks.specs.declared.fault.BuildFault.TheVariants.{TooManyBits}
 use Rattle.std.proofs.Math.Nat.{mul-le-mul_left, mul-le-mul_right}
-use Rattle.cif_cells.proofs.RawLaws.{number_small}
+use Rattle.cif_checks.proofs.RawLaws.{number_small}
 use Rattle.cif_cells.proofs.FittedCells.{cell_fitted, cells_pass}
-use Rattle.cif_cells.proofs.Passed.{first_passes, next_passes, passed, test_passes}
-use Rattle.cif_cells.proofs.RegisterCells.{register_width_fits}
-use Rattle.cif_cells.specs.RegisterKinds.{is_register}
+use Rattle.cif_nets.proofs.Passed.{first_passes, next_passes, passed, test_passes}
+use Rattle.cif_kinds.proofs.RegisterCells.{register_width_fits}
+use Rattle.cif_defs.specs.Kinds.{is_register}
 
 -- ---- numbers of a cell
 

@@ -6,11 +6,11 @@ use Rattle.cif_defs.specs.declared.nets.Driver.TheVariants.{Clock}
 use Rattle.cif_defs.specs.declared.raw_module.RawBit.{RawBit}
 use Rattle.cif_defs.specs.declared.raw_module.RawBit.TheVariants.{Net}
 use Rattle.cif_defs.specs.declared.raw_module.Raw.{Raw}
-use Rattle.cif_cells.specs.Checks.{◌else_by◌, drivers_fault, clocks_fault, reads_fault, inits_fault}
-use Rattle.cif_cells.specs.Drives.{driven_by}
-use Rattle.cif_cells.specs.Nets.{driver_or_clock}
-use Rattle.cif_cells.specs.declared.drives.DrivenBy.{DrivenBy}
-use Rattle.cif_cells.specs.declared.fault.BuildFault.{BuildFault}
+use Rattle.cif_checks.specs.Checks.{◌else_by◌, drivers_fault, clocks_fault, reads_fault, inits_fault}
+use Rattle.cif_nets.specs.Drives.{driven_by}
+use Rattle.cif_nets.specs.Nets.{driver_or_clock}
+use Rattle.cif_nets.specs.declared.drives.DrivenBy.{DrivenBy}
+use Rattle.cif_checks.specs.declared.fault.BuildFault.{BuildFault}
 
 -- the faults of the last four passes
 abbrev pub later_faults : Raw → Option BuildFault

@@ -12,7 +12,7 @@ use Rattle.cif_defs.specs.declared.raw_module.RawBit.{RawBit}
 use Rattle.cif_defs.specs.declared.raw_module.RawBit.TheVariants.{Net}
 use Rattle.cif_defs.specs.declared.raw_module.RawCell.{RawCell}
 use Rattle.cif_defs.specs.declared.raw_module.Raw.{Raw}
-use Rattle.cif_cells.specs.Checks.{number_or_0}
+use Rattle.cif_checks.specs.Checks.{number_or_0}
 
 -- a cell with a clock: a register, or a memory with a write port
 abbrev pub is_clocked_as : RawCell → Role → Bool

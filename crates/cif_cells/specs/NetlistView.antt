@@ -6,16 +6,19 @@ use Rattle.cif_defs.specs.declared.kinds.Role.TheVariants.{MemoryBlock}
 use Rattle.cif_defs.specs.Cells.{Cell}
 use Rattle.cif_defs.specs.Accepted.{netlist_of}
 use Rattle.cif_defs.specs.Fitted.{IsFitted}
+use Rattle.cif_defs.specs.Order.{IsInOrder}
 use Rattle.cif_defs.specs.Netlist.{IsWired, no_cell}
 use Rattle.cif_defs.specs.declared.nets.Wire.{Wire}
 use Rattle.cif_defs.specs.declared.nets.Driver.{Driver}
 use Rattle.cif_defs.specs.declared.raw_module.Raw.{Raw}
-use Rattle.cif_cells.specs.Checks.{IsAccepted}
+use Rattle.cif_checks.specs.Checks.{IsAccepted}
 use Rattle.cif_cells.specs.ClockBit.{clock_of}
-use Rattle.cif_cells.specs.StateCells.{HasMemoryNumbers}
-use Rattle.cif_cells.specs.Wires.{HoldsWires, Wires}
+use Rattle.cif_kinds.specs.StateCells.{HasMemoryNumbers}
+use Rattle.cif_cells.specs.Wires.{HoldsWires}
+use Rattle.cif_cells.specs.declared.finding.Wires.{Wires}
 
 pub record Holds (raw : Raw) (inputs outputs : List Wire) (cells : List Cell) (drivers : List Driver) (initial : List Word) (clock : Option ℕ) (wires : Wires) : Type 0 where
+  pub in_order : IsInOrder raw
   pub accepted : IsAccepted raw
   pub wired : IsWired (netlist_of raw)
   pub few_cells : length (netlist_of raw).cells ≤ 400000

@@ -1,23 +1,19 @@
 // Cells and wires of a netlist, from what a raw module says of them.
 ghost use Rattle.std.specs.Prelude.{◌≡◌, ◌<◌, ◌^◌, ◌&&◌, not, length, map, filter, Some, None, IfOk, if◌then◌else◌};
 ghost use Rattle.std.specs.List.Sorted.{IsStrictlyIncreasing};
-ghost use Rattle.cif_defs.specs.Table.{is_table, is_mask};
-ghost use Rattle.cif_defs.specs.RawModule.{number_given as number_of_cell, digits_given, digits_read, port_bits as bits_of_port};
+ghost use Rattle.cif_defs.specs.Table.{kind_of as kind_of_text, is_table, is_mask};
+ghost use Rattle.cif_defs.specs.RawModule.{number_given as number_of_cell, digits_given, digits_read};
 ghost use Rattle.cif_defs.specs.Accepted.{place_of as place_of_number, source as source_of, target as target_of, is_input as is_input_port, is_output as is_output_port, wire_of as wire_of_port, numbers_of, tables_of, cell_by, cell_of as cell_of_raw};
 ghost use Rattle.cif_defs.specs.Netlist.{no_cell};
-ghost use Rattle.cif_cells.specs.CellView.{numbers_seen, digits_seen};
+ghost use Rattle.cif_kinds.specs.CellView.{numbers_seen, digits_seen};
 
-use crate::cell::{Cell, Digits, Given, Sources, Targets};
-use crate::clock::is_output;
-use crate::drives::is_input;
-use crate::numbers::place_of;
-use crate::raw_access::{
-    digit_count, name_copy, number_given, port_bits, value_digit, value_given,
-};
-use crate::table;
-use cif_defs::{
-    Kind, Listed, Name, NetBit, Param, ParamValue, PortRow, RawBit, RawCell, RawPort, Src, Wire,
-};
+use cif_checks::raw_access::{digit_count, name_copy, value_digit};
+use cif_checks::{KnownCell, PortBits};
+use cif_defs::{Kind, Listed, Name, NetBit, Param, ParamValue, RawBit, RawPort, Src, Wire};
+use cif_kinds::{Cell, Digits, Given, Sources, Targets, table};
+use cif_nets::clock::is_output;
+use cif_nets::drives::is_input;
+use cif_nets::numbers::place_of;
 use std::alloc::{AllocError, Global};
 
 /// The net bit of a net number: its place among the net numbers of the module, or 0 where it isn't one of them.
@@ -79,59 +75,51 @@ fn targets(
     bits.iter().map(|bit| target(numbers, *bit)).collect(alloc)
 }
 
-/// What the operands of a cell read, where `rows` are their ports.
-fn operands(
-    alloc: Global,
-    numbers: &[u64],
-    cell: &RawCell,
-    rows: &[PortRow],
-) -> Result<Vec<Sources>, AllocError>
+/// What the operands of a cell read, where `ports` is what it connects to them.
+fn operands(alloc: Global, numbers: &[u64], ports: &[PortBits]) -> Result<Vec<Sources>, AllocError>
     requires rising { IsStrictlyIncreasing numbers.now }
     requires few { length numbers.now < 2 ^ 32 }
-    ensures { IfOk result
-        (λ v. v.items ≡ map (λ r. map (source_of numbers.now) (bits_of_port cell.now r)) rows.now) }
+    ensures { IfOk result (λ v. v.items ≡ map (λ bits. map (source_of numbers.now) bits) ports.now) }
 {
     let mut operands = Vec::new(alloc);
-    for row in rows {
-        let bits = sources(alloc, numbers, port_bits(cell, row))?;
-        operands.push(Listed::of(bits))?;
+    for bits in ports {
+        let read = sources(alloc, numbers, bits.items())?;
+        operands.push(Listed::of(read))?;
     }
     Ok(operands)
 }
 
-/// What the outputs of a cell drive, where `rows` are their ports.
-fn outputs(
-    alloc: Global,
-    numbers: &[u64],
-    cell: &RawCell,
-    rows: &[PortRow],
-) -> Result<Vec<Targets>, AllocError>
+/// What the outputs of a cell drive, where `ports` is what it connects to them.
+fn outputs(alloc: Global, numbers: &[u64], ports: &[PortBits]) -> Result<Vec<Targets>, AllocError>
     requires rising { IsStrictlyIncreasing numbers.now }
     requires few { length numbers.now < 2 ^ 32 }
-    ensures { IfOk result
-        (λ v. v.items ≡ map (λ r. map (target_of numbers.now) (bits_of_port cell.now r)) rows.now) }
+    ensures { IfOk result (λ v. v.items ≡ map (λ bits. map (target_of numbers.now) bits) ports.now) }
 {
     let mut outputs = Vec::new(alloc);
-    for row in rows {
-        let bits = targets(alloc, numbers, port_bits(cell, row))?;
-        outputs.push(Listed::of(bits))?;
+    for bits in ports {
+        let driven = targets(alloc, numbers, bits.items())?;
+        outputs.push(Listed::of(driven))?;
     }
     Ok(outputs)
 }
 
 /// The number that a cell gives for a parameter that is neither a table nor a mask.
-fn plain_number(cell: &RawCell, param: Param) -> Option<u64>
+fn plain_number(cell: &KnownCell, param: Param) -> Option<u64>
     ensures { result ≡ (if not (is_table param) && not (is_mask param) then number_of_cell cell.now param else None) }
 {
     if table::is_table(param) || table::is_mask(param) {
         None
     } else {
-        number_given(cell, param)
+        cell.number_given(param)
     }
 }
 
 /// The numbers that a cell gives for those parameters that are neither tables nor masks.
-fn numbers_given(alloc: Global, cell: &RawCell, params: &[Param]) -> Result<Vec<Given>, AllocError>
+fn numbers_given(
+    alloc: Global,
+    cell: &KnownCell,
+    params: &[Param],
+) -> Result<Vec<Given>, AllocError>
     ensures { IfOk result (λ v. numbers_seen v.items ≡ numbers_of cell.now params.now) }
 {
     let mut numbers = Vec::new(alloc);
@@ -158,17 +146,21 @@ fn value_digits(alloc: Global, value: &ParamValue) -> Result<Vec<bool>, AllocErr
 }
 
 /// The digits that a cell gives for a parameter, lowest first, where x and z are 0; none where it gives no value.
-fn param_digits(alloc: Global, cell: &RawCell, param: Param) -> Result<Vec<bool>, AllocError>
+fn param_digits(alloc: Global, cell: &KnownCell, param: Param) -> Result<Vec<bool>, AllocError>
     ensures { IfOk result (λ v. v.items ≡ digits_given cell.now param) }
 {
-    match value_given(cell, param) {
+    match cell.value(param) {
         Some(value) => value_digits(alloc, value),
         None => Ok(Vec::new(alloc)),
     }
 }
 
 /// The digits that a cell gives for those parameters that are tables.
-fn tables_given(alloc: Global, cell: &RawCell, params: &[Param]) -> Result<Vec<Digits>, AllocError>
+fn tables_given(
+    alloc: Global,
+    cell: &KnownCell,
+    params: &[Param],
+) -> Result<Vec<Digits>, AllocError>
     ensures { IfOk result (λ v. digits_seen v.items ≡ tables_of cell.now params.now) }
 {
     let mut tables = Vec::new(alloc);
@@ -188,18 +180,19 @@ fn tables_given(alloc: Global, cell: &RawCell, params: &[Param]) -> Result<Vec<D
 fn known_cell(
     alloc: Global,
     numbers: &[u64],
-    cell: &RawCell,
+    cell: &KnownCell,
     kind: Kind,
 ) -> Result<Cell, AllocError>
+    requires known { kind_of_text cell.now.kind ≡ Some kind }
     requires rising { IsStrictlyIncreasing numbers.now }
     requires few { length numbers.now < 2 ^ 32 }
     ensures { IfOk result (λ c. c ≡ cell_by numbers.now cell.now (Some kind)) }
 {
-    let name = name_copy(alloc, cell.name.items())?;
+    let name = name_copy(alloc, cell.name())?;
     let given = numbers_given(alloc, cell, table::parameters(kind))?;
     let digits = tables_given(alloc, cell, table::parameters(kind))?;
-    let read = operands(alloc, numbers, cell, table::operands(kind))?;
-    let driven = outputs(alloc, numbers, cell, table::outputs(kind))?;
+    let read = operands(alloc, numbers, cell.operands())?;
+    let driven = outputs(alloc, numbers, cell.outputs())?;
     Ok(Cell::of(name, kind, given, digits, read, driven))
 }
 
@@ -220,19 +213,23 @@ fn empty_cell(alloc: Global) -> Cell
 /// The cell that a raw cell stands for, where `numbers` are the net numbers of its module. A cell of a type that the
 /// table of kinds lacks, which no accepted module has, stands for one without parameters and ports.
 #[tactic(auto, unfolding(cif_defs::specs::Accepted::cell_of))]
-pub fn cell_of(alloc: Global, numbers: &[u64], cell: &RawCell) -> Result<Cell, AllocError>
+pub fn cell_of(alloc: Global, numbers: &[u64], cell: &KnownCell) -> Result<Cell, AllocError>
     requires rising { IsStrictlyIncreasing numbers.now }
     requires few { length numbers.now < 2 ^ 32 }
     ensures { IfOk result (λ c. c ≡ cell_of_raw numbers.now cell.now) }
 {
-    match table::kind_of(cell.kind.items()) {
+    match cell.kind() {
         Some(kind) => known_cell(alloc, numbers, cell, kind),
         None => Ok(empty_cell(alloc)),
     }
 }
 
 /// The cells that raw cells stand for, where `numbers` are the net numbers of their module.
-pub fn cells_of(alloc: Global, numbers: &[u64], cells: &[RawCell]) -> Result<Vec<Cell>, AllocError>
+pub fn cells_of(
+    alloc: Global,
+    numbers: &[u64],
+    cells: &[KnownCell],
+) -> Result<Vec<Cell>, AllocError>
     requires rising { IsStrictlyIncreasing numbers.now }
     requires few { length numbers.now < 2 ^ 32 }
     ensures { IfOk result (λ v. v.items ≡ map (cell_of_raw numbers.now) cells.now) }

@@ -2,15 +2,14 @@
 ghost use Rattle.std.specs.Prelude.{◌≡◌, map, Some, None, IfOk};
 ghost use Rattle.cif_defs.specs.RawModule.{net_numbers};
 ghost use Rattle.cif_defs.specs.Accepted.{netlist_of};
-ghost use Rattle.cif_cells.specs.Checks.{drivers_fault, IsAccepted};
+ghost use Rattle.cif_checks.specs.Checks.{drivers_fault, IsAccepted};
 ghost use Rattle.cif_cells.specs.ClockBit.{clock_of};
 ghost use Rattle.cif_cells.specs.Building.{clock_number as clock_number_of, driver_read, driver_with, net_number as net_number_of};
 
 use crate::assemble::net_bit;
-use crate::clock::first_clock;
-use crate::drives::DrivenBy;
-use crate::nets::Nets;
-use cif_defs::{Driver, NetBit, Raw, RawBit};
+use cif_defs::{Driver, NetBit, RawBit};
+use cif_nets::Nets;
+use cif_nets::drives::DrivenBy;
 use std::alloc::{AllocError, Global};
 
 /// The number of a net; none of a constant.
@@ -24,10 +23,10 @@ fn net_number(bit: RawBit) -> Option<u64>
 }
 
 /// The net number of the clock; none where no cell has a clock.
-pub fn clock_number(raw: &Raw) -> Option<u64>
-    ensures { result ≡ clock_number_of raw.now }
+pub fn clock_number(nets: &Nets) -> Option<u64>
+    ensures { result ≡ clock_number_of nets.now }
 {
-    match first_clock(raw.cells.items()) {
+    match nets.clock() {
         Some(edge) => net_number(edge.bit),
         None => None,
     }
@@ -52,7 +51,7 @@ fn driver_of(clock: Option<u64>, drive: DrivenBy, number: u64) -> Driver
 fn drivers_read(alloc: Global, nets: &Nets) -> Result<Vec<Driver>, AllocError>
     ensures { IfOk result (λ v. v.items ≡ map (driver_read nets.now) (net_numbers nets.now)) }
 {
-    let clock = clock_number(nets.raw());
+    let clock = clock_number(nets);
     let numbers = nets.numbers();
     let mut drivers = Vec::with_capacity(alloc, numbers.len())?;
     for number in numbers {
@@ -74,7 +73,7 @@ pub fn clock_bit(nets: &Nets) -> Option<NetBit>
     requires { IsAccepted nets.now }
     ensures { result ≡ clock_of nets.now }
 {
-    match clock_number(nets.raw()) {
+    match clock_number(nets) {
         Some(number) => Some(net_bit(nets.numbers(), number)),
         None => None,
     }

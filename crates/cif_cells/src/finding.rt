@@ -1,19 +1,19 @@
 // Wires by name: netnames come first, then ports.
-ghost use Rattle.std.specs.Prelude.{◌≡◌, ◌∷◌, [], ◌<◌, ◌^◌, length, map, None, IfOk, OnOk};
+ghost use Rattle.std.specs.Prelude.{◌≡◌, map, Some, IfOk};
 ghost use Rattle.std.specs.List.{list_all};
+ghost use Rattle.cif_defs.specs.Order.{IsInOrder};
 ghost use Rattle.cif_cells.specs.Building.{clock_number as clock_number_of, is_number};
-ghost use Rattle.cif_cells.specs.Finding.{is_two_valued as is_two_valued_bit, are_two_valued as are_two_valued_bits, wire_if as wire_if_of, name_named, port_named, found_as};
-ghost use Rattle.cif_cells.specs.Nets.{is_driven as is_driven_by};
-ghost use Rattle.cif_cells.specs.Wires.{AddsWires, HoldsWires, wire_at, found_seen};
+ghost use Rattle.cif_cells.specs.Finding.{is_two_valued as is_two_valued_bit, are_two_valued as are_two_valued_bits, wire_if as wire_if_of, found_as, found_of};
+ghost use Rattle.cif_nets.specs.Nets.{is_driven as is_driven_by};
+ghost use Rattle.cif_cells.specs.Wires.{HoldsWires, wire_of_name, wire_of_port, found_seen};
 
 use crate::assemble::sources;
 use crate::drivers::clock_number;
-use crate::drives::DrivenBy;
-use crate::nets::Nets;
-use crate::raw_access::name_copy;
-use cif_defs::{RawBit, RawName, RawPort, Wire};
+use cif_checks::raw_access::name_copy;
+use cif_defs::{Raw, RawBit, RawName, RawPort, Wire, place_in_order};
+use cif_nets::Nets;
+use cif_nets::drives::DrivenBy;
 use std::alloc::{AllocError, Global};
-use std::collections::BTreeMap;
 
 /// The most bits that a wire may have.
 const WIRE_LIMIT: usize = 65_536;
@@ -29,8 +29,13 @@ pub enum Found<'a> {
     Missing,
 }
 
-/// Wires by name; None stands for a wire that isn't two-valued.
-pub type Wires = BTreeMap<Vec<u8>, Option<Wire>>;
+/// The wires of a module's netnames and those of its ports, in the order in which they stand there; None stands for a wire
+/// that isn't two-valued.
+#[derive(Debug, Drop)]
+pub struct Wires {
+    names: Vec<Option<Wire>>,
+    ports: Vec<Option<Wire>>,
+}
 
 /// Whether a number is the clock.
 fn is_clock(clock: Option<u64>, number: u64) -> bool
@@ -103,100 +108,74 @@ fn wire_if(
     Ok(Some(Wire::of(name_copy(alloc, name)?, read)))
 }
 
-/// A copy of the bytes of a name.
-fn key_of(alloc: Global, name: &[u8]) -> Result<Vec<u8>, AllocError>
-    ensures { IfOk result (λ key. key.items ≡ name.now) }
-{
-    name.to_vec(alloc)
-}
-
-/// Keeps the wire of a name, unless the name is there.
-fn add_wire(
+/// The wires of netnames.
+fn wires_of_names(
     alloc: Global,
     nets: &Nets,
     clock: Option<u64>,
-    wires: &mut Wires,
-    name: &[u8],
-    bits: &[RawBit],
-) -> Result<(), AllocError>
-    requires { clock ≡ clock_number_of nets.now }
-    ensures { OnOk result (AddsWires nets.now wires.old wires.new ((name.now, bits.now) ∷ [])) }
-{
-    if wires.contains_key(name) {
-        return Ok(());
-    }
-    let wire = wire_if(alloc, nets, clock, name, bits)?;
-    wires.insert(key_of(alloc, name)?, wire)?;
-    Ok(())
-}
-
-/// Keeps the wires of netnames.
-fn add_names(
-    alloc: Global,
-    nets: &Nets,
-    clock: Option<u64>,
-    wires: &mut Wires,
     names: &[RawName],
-) -> Result<(), AllocError>
+) -> Result<Vec<Option<Wire>>, AllocError>
     requires { clock ≡ clock_number_of nets.now }
-    ensures { OnOk result (AddsWires nets.now wires.old wires.new (map name_named names.now)) }
+    ensures { IfOk result (λ v. v.items ≡ map (wire_of_name nets.now) names.now) }
 {
+    let mut wires = Vec::with_capacity(alloc, names.len())?;
     for name in names {
-        add_wire(
-            alloc,
-            nets,
-            clock,
-            wires,
-            name.name.items(),
-            name.bits.items(),
-        )?;
+        wires.push(wire_if(alloc, nets, clock, name.name.items(), name.bits.items())?)?;
     }
-    Ok(())
-}
-
-/// Keeps the wires of ports.
-fn add_ports(
-    alloc: Global,
-    nets: &Nets,
-    clock: Option<u64>,
-    wires: &mut Wires,
-    ports: &[RawPort],
-) -> Result<(), AllocError>
-    requires { clock ≡ clock_number_of nets.now }
-    ensures { OnOk result (AddsWires nets.now wires.old wires.new (map port_named ports.now)) }
-{
-    for port in ports {
-        add_wire(
-            alloc,
-            nets,
-            clock,
-            wires,
-            port.name.items(),
-            port.bits.items(),
-        )?;
-    }
-    Ok(())
-}
-
-/// The wires of all names of a module: of netnames, and of ports whose name no netname has.
-pub fn wires_of(alloc: Global, nets: &Nets) -> Result<Wires, AllocError>
-    ensures { IfOk result (λ wires. HoldsWires nets.now wires) }
-{
-    let raw = nets.raw();
-    let clock = clock_number(raw);
-    let mut wires = BTreeMap::new(alloc);
-    add_names(alloc, nets, clock, &mut wires, raw.names.items())?;
-    add_ports(alloc, nets, clock, &mut wires, raw.ports.items())?;
     Ok(wires)
 }
 
-/// What is kept under a name.
-pub fn found_in<'a>(wires: &'a Wires, name: &[u8]) -> Found<'a>
-    ensures { found_seen result ≡ found_as (wire_at wires.now name.now) }
+/// The wires of ports.
+fn wires_of_ports(
+    alloc: Global,
+    nets: &Nets,
+    clock: Option<u64>,
+    ports: &[RawPort],
+) -> Result<Vec<Option<Wire>>, AllocError>
+    requires { clock ≡ clock_number_of nets.now }
+    ensures { IfOk result (λ v. v.items ≡ map (wire_of_port nets.now) ports.now) }
 {
-    match wires.get(name) {
-        Some(Some(wire)) => Found::Wire(wire),
-        Some(None) => Found::NotTwoValued,
+    let mut wires = Vec::with_capacity(alloc, ports.len())?;
+    for port in ports {
+        wires.push(wire_if(alloc, nets, clock, port.name.items(), port.bits.items())?)?;
+    }
+    Ok(wires)
+}
+
+/// The wires of all names of a module.
+pub fn wires_of(alloc: Global, nets: &Nets) -> Result<Wires, AllocError>
+    ensures { IfOk result (λ wires. HoldsWires nets.now wires) }
+{
+    let known = nets.known();
+    let clock = clock_number(nets);
+    let names = wires_of_names(alloc, nets, clock, known.names())?;
+    let ports = wires_of_ports(alloc, nets, clock, known.ports())?;
+    Ok(Wires { names, ports })
+}
+
+/// A wire that is kept.
+fn kept(wire: &Option<Wire>) -> Found<'_>
+    ensures { found_seen result ≡ found_as (Some wire.now) }
+{
+    match wire {
+        Some(wire) => Found::Wire(wire),
+        None => Found::NotTwoValued,
+    }
+}
+
+/// What stands under a name of a module with these wires: a netname, or else a port.
+pub fn found_in<'a>(raw: &Raw, wires: &'a Wires, name: &[u8]) -> Found<'a>
+    requires in_order { IsInOrder raw.now }
+    requires wires { HoldsWires raw.now wires.now }
+    ensures { found_seen result ≡ found_of raw.now name.now }
+{
+    let names = wires.names.as_slice();
+    let ports = wires.ports.as_slice();
+    if let Some(place) = place_in_order(raw.names.items(), name) {
+        return kept(&names[place]);
+    }
+    match place_in_order(raw.ports.items(), name) {
+        Some(place) => kept(&ports[place]),
         None => Found::Missing,
     }
 }

@@ -3,37 +3,21 @@
 
 mod assemble;
 mod build;
-mod cell;
-mod cells;
-mod clock;
 mod drivers;
-mod drives;
-mod fault;
 mod finding;
-mod inits;
-mod meanings;
+mod laws;
 mod netlist;
-mod nets;
-mod numbers;
-mod parameters;
-mod ports;
-mod raw_access;
-mod reads;
 mod state;
-#[cfg(test)]
-mod state_tests;
-pub mod table;
-#[cfg(test)]
-mod tests;
 
-pub use cell::{Cell, Digits, Given, Sources, Targets};
+pub use cif_checks::{BuildFault, Spot};
 pub use cif_defs::{
     CellList, CellPort, Connection, Connections, Direction, Driver, Kind, Listed, Name, NetBit,
     Param, ParamValue, Params, PortRow, PortWidth, Raw, RawBit, RawBits, RawCell, RawName,
     RawNames, RawParam, RawPort, RawPorts, Role, Src, Wire,
 };
-pub use fault::{BuildFault, Spot};
+pub use cif_kinds::{Cell, Digits, Given, Sources, Targets, table};
+pub use cif_meanings::meaning;
+pub use cif_registers::{register_next, register_show};
 pub use finding::Found;
-pub use meanings::meaning;
-pub use meanings::registers::{register_next, register_show};
+pub use laws::accepted_is_counted_and_well_formed;
 pub use netlist::Netlist;

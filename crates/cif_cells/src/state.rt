@@ -3,9 +3,8 @@ ghost use Rattle.std.specs.Prelude.{◌≡◌, ◌<◌, ◌^◌};
 ghost use Rattle.std.specs.List.{sum_by};
 ghost use Rattle.cif_defs.specs.Cells.{state_bits as state_bits_of};
 
-use crate::cell::Cell;
-use crate::table;
 use cif_defs::{Param, Role};
+use cif_kinds::{Cell, table};
 
 /// How many bits a cell stores.
 fn state_bits(cell: &Cell) -> u64

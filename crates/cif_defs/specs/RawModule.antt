@@ -87,20 +87,6 @@ output_bits c = bits_by outputs_of c (kind_of c.kind)
 abbrev pub clock_bits : RawCell → List RawBit
 clock_bits c = bits_by clocks_of c (kind_of c.kind)
 
--- ---- order of names
-
--- whether x stands before y in byte order
-abbrev pub stands_before : List ℕ → List ℕ → Bool
-stands_before x [] = false
-stands_before [] (c ∷ y) = true
-stands_before (b ∷ x) (c ∷ y) = nat_lt b c || (b == c && stands_before x y)
-
--- names in byte order, each once
-abbrev pub are_rising : List (List ℕ) → Bool
-are_rising [] = true
-are_rising (x ∷ []) = true
-are_rising (x ∷ y ∷ names) = stands_before x y && are_rising (y ∷ names)
-
 -- ---- net numbers
 
 -- the net numbers among some bits

@@ -16,7 +16,7 @@ use Rattle.cif_defs.proofs.Agree.{src_complete}
 use Rattle.cif_defs.specs.Messages.{read_fault_line}
 use Rattle.cif_defs.specs.declared.raw_module.Raw.{Raw}
 use Rattle.cif_defs.proofs.Noninterference.{noninterference}
-use Rattle.cif_cells.proofs.Wired.{wired}
+use Rattle.cif_nets.proofs.Wired.{wired}
 use Rattle.cif_json.specs.Answers.{ComesTo}
 use Rattle.cif_desk.specs.Commands.{Command, check, eval, net_word}
 use Rattle.cif_desk.specs.Refusals.{Refusal}
@@ -24,7 +24,7 @@ use Rattle.cif_desk.specs.Permitted.{Permits, HoldsNetlist, HoldsStimulus, Refus
 use Rattle.cif_desk.specs.Ends.{WritesOut, WritesApart}
 use Rattle.cif_desk.specs.Showing.{ShowsApart, text_showing}
 use Rattle.cif_desk.specs.Stops.{StopsAtFile, StopsWriting, HasCause, end_status, stop_status}
-use Rattle.cif_desk.proofs.ShownLaws.{length-src_word, length-taint_word}
+use Rattle.cif_desk.proofs.ShownBits.{length-src_word, length-taint_word}
 use Rattle.cif_seq.specs.Cases.{CaseOf, net_of}
 use Rattle.cif_desk.specs.declared.stop.Stop.{Stop}
 use Rattle.cif_desk.specs.declared.stop.Stop.TheVariants.{Usage, Refused, Unread, Unwritten, NoMemory}

@@ -7,15 +7,17 @@ use Rattle.cif_defs.specs.Stimulus.{Stimulus}
 use Rattle.cif_defs.specs.Accepted.{netlist_of}
 use Rattle.cif_defs.specs.Loop.{IsLoop}
 use Rattle.cif_defs.specs.declared.raw_module.Raw.{Raw}
-use Rattle.cif_cells.specs.Checks.{IsAccepted, IsFirst}
-use Rattle.cif_cells.specs.declared.fault.BuildFault.{BuildFault}
-use Rattle.cif_cells.specs.declared.fault.BuildFault.TheVariants.{Memory}
+use Rattle.cif_checks.specs.Checks.{IsAccepted, IsFirst}
+use Rattle.cif_checks.specs.declared.fault.BuildFault.{BuildFault}
+use Rattle.cif_checks.specs.declared.fault.BuildFault.TheVariants.{Memory}
+use Rattle.cif_level.specs.LevelFaults.{HasLeastNameFirst}
+use Rattle.cif_level.specs.declared.fault.LevelFault.TheVariants.{Loop}
 use Rattle.cif_json.specs.Answers.{ComesTo}
-use Rattle.cif_stim.specs.Places.{is_cycle_count}
-use Rattle.cif_stim.specs.StimulusText.{stimulus_read}
-use Rattle.cif_stim.specs.Reading.{IsFirst as IsFirstRead}
-use Rattle.cif_stim.specs.declared.fault.StimFault.{StimFault}
-use Rattle.cif_stim.specs.declared.fault.StimFault.TheVariants.{Memory as NoRoom}
+use Rattle.cif_stimulus.specs.Places.{is_cycle_count}
+use Rattle.cif_stimulus.specs.StimulusText.{stimulus_read}
+use Rattle.cif_stim_read.specs.Reading.{IsFirst as IsFirstRead}
+use Rattle.cif_stimulus.specs.declared.fault.StimFault.{StimFault}
+use Rattle.cif_stimulus.specs.declared.fault.StimFault.TheVariants.{Memory as NoRoom}
 use Rattle.cif_desk.specs.Refusals.{Refusal, build_refusal, loop_refusal, stim_refusal}
 use Rattle.cif_desk.specs.Permitted.{FileTold, LongFileTold, IsNetlist, FailsNetlist, looped, long_netlist, bad_netlist, NetlistTold, NetlistRefused, long_stimulus, bad_stimulus, StimulusTold, StimulusRefused}
 use Rattle.cif_desk.specs.Stops.{StopsBy, StopsAtFile}
@@ -54,8 +56,8 @@ pub first_found : (found : Option BuildFault) (fault : BuildFault) (r : Refusal)
 first_found found Memory r h e = absurd (cc)
 first_found found fault r h e = h
 
-pub fails_by_loop : (bytes : List ℕ) (raw : Raw) (cells items : List ℕ) (r : Refusal) → ComesTo bytes (Ok raw) → IsAccepted raw → IsLoop (netlist_of raw) cells → items ≡ cells → loop_refusal (netlist_of raw) items ≡ r → FailsNetlist bytes r
-fails_by_loop bytes raw cells items r read accepted loop e is = looped raw cells read accepted loop (ap (loop_refusal (netlist_of raw)) (sym e) ∙ is)
+pub fails_by_loop : (bytes : List ℕ) (raw : Raw) (cells items : List ℕ) (r : Refusal) → ComesTo bytes (Ok raw) → IsAccepted raw → IsLoop (netlist_of raw) cells → HasLeastNameFirst (netlist_of raw) (Loop cells) → items ≡ cells → loop_refusal (netlist_of raw) items ≡ r → FailsNetlist bytes r
+fails_by_loop bytes raw cells items r read accepted loop least e is = looped raw cells read accepted loop least (ap (loop_refusal (netlist_of raw)) (sym e) ∙ is)
 
 pub netlist_told : (told : Option Files) (name bytes held : List ℕ) (raw : Raw) → FileTold told name held → bytes ≡ held → IsNetlist bytes raw → NetlistTold told name raw
 netlist_told told name bytes held raw file e passes = record {

@@ -1,6 +1,6 @@
 pub mod TextLaws
 pub mod RefusalLaws
-pub mod ShownLaws
+pub mod ShownBits
 pub mod CycleLaws
 pub mod FileLaws
 pub mod AnswerLaws

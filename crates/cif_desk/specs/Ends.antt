@@ -38,7 +38,7 @@ pub data MayTell (told : Option Files) (asked : Option Command) (failed bytes : 
   tells_usage : asked ≡ None → bytes ≡ usage_line → MayTell told asked failed bytes
   tells_refusal : TellsRefusal told asked bytes → MayTell told asked failed bytes
   tells_read_fault : IsDue told asked failed → bytes ≡ read_fault_line failed → MayTell told asked failed bytes
-  tells_write_fault : bytes ≡ write_fault_line → MayTell told asked failed bytes
+  tells_write_fault : IsSome asked → bytes ≡ write_fault_line → MayTell told asked failed bytes
   tells_memory : IsSome asked → bytes ≡ memory_line → MayTell told asked failed bytes
 
 -- what err took in a call

@@ -4,6 +4,7 @@ pub mod Refusals
 pub mod Pieces
 pub mod Permitted
 pub mod Ends
+pub mod Calls
 pub mod Stops
 pub mod Shown
 pub mod Showing

@@ -10,11 +10,13 @@ use Rattle.cif_defs.specs.Stimulus.{Stimulus}
 use Rattle.cif_defs.specs.EvalText.{eval_text}
 use Rattle.cif_defs.specs.Loop.{IsLoop}
 use Rattle.cif_defs.specs.declared.raw_module.Raw.{Raw}
-use Rattle.cif_cells.specs.Checks.{build_fault, IsAccepted}
-use Rattle.cif_cells.specs.declared.fault.BuildFault.{BuildFault}
+use Rattle.cif_checks.specs.Checks.{build_fault, IsAccepted}
+use Rattle.cif_checks.specs.declared.fault.BuildFault.{BuildFault}
+use Rattle.cif_level.specs.LevelFaults.{HasLeastNameFirst}
+use Rattle.cif_level.specs.declared.fault.LevelFault.TheVariants.{Loop}
 use Rattle.cif_json.specs.Answers.{ComesTo, IsRefused}
-use Rattle.cif_stim.specs.StimulusText.{stimulus_read}
-use Rattle.cif_stim.specs.declared.fault.StimFault.{StimFault}
+use Rattle.cif_stimulus.specs.StimulusText.{stimulus_read}
+use Rattle.cif_stimulus.specs.declared.fault.StimFault.{StimFault}
 use Rattle.cif_json.specs.declared.fault.JsonFault.{JsonFault}
 use Rattle.cif_desk.specs.Commands.{Command, check, eval, net_word}
 use Rattle.cif_desk.specs.Refusals.{Refusal, joined, too_long, json_refusal, build_refusal, loop_refusal, stim_refusal}
@@ -47,11 +49,13 @@ pub record IsNetlist (bytes : List ℕ) (raw : Raw) : Type 0 where
   pub accepted : IsAccepted raw
   pub no_loop : (cells : List ℕ) → ¬ IsLoop (netlist_of raw) cells
 
--- the check that bytes fail first: their reading, the checks of the module, or that it has no loop
+-- the check that bytes fail first: their reading, the checks of the module, or that it has no loop; of a loop the cell of
+-- the least name is told first
 pub data FailsNetlist (bytes : List ℕ) (refusal : Refusal) : Type 0 where
   unread : (fault : JsonFault) → IsRefused bytes fault → json_refusal fault ≡ Some refusal → FailsNetlist bytes refusal
   unaccepted : (raw : Raw) (fault : BuildFault) → ComesTo bytes (Ok raw) → build_fault raw ≡ Some fault → build_refusal fault ≡ Some refusal → FailsNetlist bytes refusal
-  looped : (raw : Raw) (cells : List ℕ) → ComesTo bytes (Ok raw) → IsAccepted raw → IsLoop (netlist_of raw) cells → loop_refusal (netlist_of raw) cells ≡ refusal → FailsNetlist bytes refusal
+  looped : (raw : Raw) (cells : List ℕ) → ComesTo bytes (Ok raw) → IsAccepted raw → IsLoop (netlist_of raw) cells → HasLeastNameFirst (netlist_of raw) (Loop cells)
+      → loop_refusal (netlist_of raw) cells ≡ refusal → FailsNetlist bytes refusal
 
 -- the file of a name passes every check
 pub record HoldsNetlist (files : Files) (name : List ℕ) (raw : Raw) : Type 0 where
@@ -109,14 +113,11 @@ pub data Permits (files : Files) : Command → Answer → Type 0 where
   stimulus_refused : (net stim : List ℕ) (raw : Raw) (refusal : Refusal) → HoldsNetlist files net raw → RefusesStimulus files stim raw refusal → Permits files (eval net stim) (refused refusal)
   evaluated : (net stim : List ℕ) (raw : Raw) (s : Stimulus) → HoldsNetlist files net raw → HoldsStimulus files stim raw s → Permits files (eval net stim) (text (eval_text (netlist_of raw) s))
 
--- a permitted answer to what was asked: where the words fit no form, usage alone
-abbrev pub IsPermitted : Option Command → Files → Answer → Type 0
-IsPermitted None files answer = answer ≡ usage
-IsPermitted (Some c) files answer = Permits files c answer
-
--- an answer is permitted, where the store tells its files
+-- a permitted answer to what was asked: where the words fit no form, usage alone; else one that the files permit, where
+-- the store tells its files
 abbrev pub IsAllowed : Option Files → Option Command → Answer → Type 0
-IsAllowed told asked answer = (files : Files) → told ≡ Some files → IsPermitted asked files answer
+IsAllowed told None answer = answer ≡ usage
+IsAllowed told (Some c) answer = (files : Files) → told ≡ Some files → Permits files c answer
 
 -- a file word that is fetched: each file word before it names a file that passes all its checks, where the store tells its files
 pub data IsDue (told : Option Files) : Option Command → List ℕ → Type 0 where

@@ -5,14 +5,14 @@ use Rattle.std.specs.Fmt.{decimal}
 use Rattle.cif_defs.specs.Text.{coded}
 use Rattle.cif_defs.specs.Messages.{refusal_line}
 use Rattle.cif_defs.specs.Netlist.{Netlist, cell_at}
-use Rattle.cif_cells.specs.declared.fault.Spot.{Spot}
-use Rattle.cif_cells.specs.declared.fault.Spot.TheVariants.{Port, CellPort}
-use Rattle.cif_cells.specs.declared.fault.BuildFault.{BuildFault}
-use Rattle.cif_cells.specs.declared.fault.BuildFault.TheVariants.{UnsupportedCell, MissingPort, WidthMismatch, WidthLimit, BadParameter, XOperand, MultiDriven, Undriven, ConstantOutput, TwoClocks, ClockAsData, InoutPort, InitConflict, MemoryForm, TooManyCells, TooManyBits, ZeroWidth, NoClockInput, PortClash, Memory}
+use Rattle.cif_checks.specs.declared.fault.Spot.{Spot}
+use Rattle.cif_checks.specs.declared.fault.Spot.TheVariants.{Port, CellPort}
+use Rattle.cif_checks.specs.declared.fault.BuildFault.{BuildFault}
+use Rattle.cif_checks.specs.declared.fault.BuildFault.TheVariants.{UnsupportedCell, MissingPort, WidthMismatch, WidthLimit, BadParameter, XOperand, MultiDriven, Undriven, ConstantOutput, TwoClocks, ClockAsData, InoutPort, InitConflict, MemoryForm, TooManyCells, TooManyBits, ZeroWidth, NoClockInput, PortClash, Memory}
 use Rattle.cif_json.specs.declared.fault.JsonFault.{JsonFault}
 use Rattle.cif_json.specs.declared.fault.JsonFault.TheVariants.{BadJson, NoModules, NoTop, BadShape, Memory as NoMemory}
-use Rattle.cif_stim.specs.declared.fault.StimFault.{StimFault}
-use Rattle.cif_stim.specs.declared.fault.StimFault.TheVariants.{BadLine, NoSuchName, WrongWidth, NoCycles, TooManyCycles, SetTwice, BadAddress, Memory as NoRoom}
+use Rattle.cif_stimulus.specs.declared.fault.StimFault.{StimFault}
+use Rattle.cif_stimulus.specs.declared.fault.StimFault.TheVariants.{BadLine, NoSuchName, WrongWidth, NoCycles, TooManyCycles, SetTwice, BadAddress, Memory as NoRoom}
 
 pub record Refusal : Type 0 where
   pub number : ℕ

@@ -1,11 +1,12 @@
 // The commands: files fetched, words matched and texts written stand here alone.
-ghost use Rattle.std.specs.Prelude.{◌≡◌, ◌≤◌, ◌⊎◌, ◌<◌, ℕ, Some, None, IsSome, IfOk, IfErr, OnOk, Err};
+ghost use Rattle.std.specs.Prelude.{◌≡◌, Some, None, IfOk, IfErr, OnOk, Err};
 ghost use Rattle.cif_io.specs.Outside.{Rose};
 ghost use Rattle.cif_defs.specs.Accepted.{netlist_of};
 ghost use Rattle.cif_desk.specs.Commands.{check as checks, eval as evaluates};
 ghost use Rattle.cif_desk.specs.CommandView.{asked_by};
-ghost use Rattle.cif_desk.specs.Permitted.{check_text as text_of_check, IsDue};
-ghost use Rattle.cif_desk.specs.Ends.{WritesOut, WritesErr, WritesApart};
+ghost use Rattle.cif_desk.specs.Permitted.{check_text as text_of_check};
+ghost use Rattle.cif_desk.specs.Ends.{WritesOut, WritesApart};
+ghost use Rattle.cif_desk.specs.Calls.{Answers};
 ghost use Rattle.cif_desk.specs.Stops.{HasCause, Says, end_status, stop_line, stop_status};
 
 use crate::command::{Command, asked};
@@ -141,31 +142,16 @@ pub fn quiet<S: Store, W: Sink, E: Sink>(
     out: &mut W,
     err: &mut E,
 ) -> u8
-    ensures range { result ≤ 5 }
-
-    // Usage comes exactly where the words fit no form, unless err fails to take its line.
-    ensures usage_only { result ≡ 1 → asked_by words.now ≡ None }
-    ensures usage { asked_by words.now ≡ None → (result ≡ 1) ⊎ (result ≡ 4) }
-
-    // A fault comes only where a count rose, and a read fault only at a file word that is due.
-    ensures read_fault { result ≡ 3 → Rose (S.faults store.old) (S.faults store.new)
-        × IsDue (S.told store.old) (asked_by words.now) (S.last_failed store.new) }
-    ensures write_fault { result ≡ 4 → Rose (W.faults out.old) (W.faults out.new)
-        ⊎ Rose (E.faults err.old) (E.faults err.new) }
-    ensures memory { result ≡ 5 → IsSome (asked_by words.now) }
-    ensures complete { IsSome (asked_by words.now) → ¬ Rose (S.faults store.old) (S.faults store.new)
-        → ¬ Rose (W.faults out.old) (W.faults out.new) → ¬ Rose (E.faults err.old) (E.faults err.new)
-        → (result ≡ 0) ⊎ ((result ≡ 2) ⊎ (result ≡ 5)) }
-
-    // Out takes a permitted text, a beginning of one, or nothing; err takes nothing, or one line.
-    ensures out { WritesOut (S.told store.old) (asked_by words.now) result
-        (W.taken out.old) (W.taken out.new) }
-    ensures err { WritesErr (S.told store.old) (asked_by words.now) (S.last_failed store.new) result
-        (E.taken err.old) (E.taken err.new) }
-
-    // Each bit that out shows untainted has the value that is shown, under every stimulus that agrees up to its cycle.
-    ensures noninterference { result ≡ 0 → WritesApart (S.told store.old) (asked_by words.now)
-        (W.taken out.old) (W.taken out.new) }
+    ensures { Answers (record {
+      asked = asked_by words.now;
+      told = S.told store.old;
+      failed = S.last_failed store.new;
+      store_faults = record { old = S.faults store.old; new = S.faults store.new };
+      out_faults = record { old = W.faults out.old; new = W.faults out.new };
+      err_faults = record { old = E.faults err.old; new = E.faults err.new };
+      out = record { old = W.taken out.old; new = W.taken out.new };
+      err = record { old = E.taken err.old; new = E.taken err.new };
+    }) result }
 {
     match answer(alloc, words, store, out) {
         Ok(()) => 0,
@@ -185,31 +171,16 @@ pub fn cellift<S: Store, W: Sink, E: Sink, G: Gate + Sync, R>(
     err: &mut E,
     _gate: &G,
 ) -> u8
-    ensures range { result ≤ 5 }
-
-    // Usage comes exactly where the words fit no form, unless err fails to take its line.
-    ensures usage_only { result ≡ 1 → asked_by words.now ≡ None }
-    ensures usage { asked_by words.now ≡ None → (result ≡ 1) ⊎ (result ≡ 4) }
-
-    // A fault comes only where a count rose, and a read fault only at a file word that is due.
-    ensures read_fault { result ≡ 3 → Rose (S.faults store.old) (S.faults store.new)
-        × IsDue (S.told store.old) (asked_by words.now) (S.last_failed store.new) }
-    ensures write_fault { result ≡ 4 → Rose (W.faults out.old) (W.faults out.new)
-        ⊎ Rose (E.faults err.old) (E.faults err.new) }
-    ensures memory { result ≡ 5 → IsSome (asked_by words.now) }
-    ensures complete { IsSome (asked_by words.now) → ¬ Rose (S.faults store.old) (S.faults store.new)
-        → ¬ Rose (W.faults out.old) (W.faults out.new) → ¬ Rose (E.faults err.old) (E.faults err.new)
-        → (result ≡ 0) ⊎ ((result ≡ 2) ⊎ (result ≡ 5)) }
-
-    // Out takes a permitted text, a beginning of one, or nothing; err takes nothing, or one line.
-    ensures out { WritesOut (S.told store.old) (asked_by words.now) result
-        (W.taken out.old) (W.taken out.new) }
-    ensures err { WritesErr (S.told store.old) (asked_by words.now) (S.last_failed store.new) result
-        (E.taken err.old) (E.taken err.new) }
-
-    // Each bit that out shows untainted has the value that is shown, under every stimulus that agrees up to its cycle.
-    ensures noninterference { result ≡ 0 → WritesApart (S.told store.old) (asked_by words.now)
-        (W.taken out.old) (W.taken out.new) }
+    ensures { Answers (record {
+      asked = asked_by words.now;
+      told = S.told store.old;
+      failed = S.last_failed store.new;
+      store_faults = record { old = S.faults store.old; new = S.faults store.new };
+      out_faults = record { old = W.faults out.old; new = W.faults out.new };
+      err_faults = record { old = E.faults err.old; new = E.faults err.new };
+      out = record { old = W.taken out.old; new = W.taken out.new };
+      err = record { old = E.taken err.old; new = E.taken err.new };
+    }) result }
 {
     quiet(alloc, words, store, out, err)
 }

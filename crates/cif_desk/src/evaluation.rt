@@ -1,21 +1,20 @@
 // The text of an evaluation, written cycle by cycle.
-ghost use Rattle.std.specs.Prelude.{◌≡◌, ◌<◌, ◌≤◌, ◌++◌, ◌∷◌, [], ℕ, length, get_or, IfOk, IfErr, OnOk};
+ghost use Rattle.std.specs.Prelude.{◌≡◌, ◌<◌, ◌++◌, ℕ, length, IfOk, IfErr, OnOk};
 ghost use Rattle.cif_defs.specs.WordText.{text_of, byte_of_bit};
-ghost use Rattle.cif_defs.specs.Accepted.{netlist_of};
 ghost use Rattle.cif_defs.specs.Run.{value, src_bit, src_word};
 ghost use Rattle.cif_defs.specs.TaintRun.{taint, src_taint, taint_word};
-ghost use Rattle.cif_defs.specs.EvalText.{port_line, cycle_head, cycle_text as text_of_cycle, done_line, eval_text};
+ghost use Rattle.cif_defs.specs.EvalText.{port_line, cycle_text as text_of_cycle, done_line, eval_text};
 ghost use Rattle.cif_io.specs.Outside.{Rose, Appends};
 ghost use Rattle.cif_desk.specs.Stops.{StopsWriting};
 ghost use Rattle.cif_desk.specs.Shown.{AreInside};
 ghost use Rattle.cif_seq.specs.Cases.{net_of};
 
 use crate::stop::Stop;
-use crate::text::{push_name, push_number};
 use cif_cells::{Src, Wire};
 use cif_io::{Sink, write_all};
 use cif_seq::{Case, Frame, first_frame, next_frame};
-use cif_stim::Pair;
+use cif_stimulus::Pair;
+use cif_text::{push_name, push_number};
 use std::alloc::{AllocError, Global};
 use std::sync::Arc;
 

@@ -3,10 +3,10 @@ ghost use Rattle.std.specs.Prelude.{◌≡◌, ◌<◌, Some, true, Ok, Err, IfO
 ghost use Rattle.cif_io.specs.Outside.{Rose};
 ghost use Rattle.cif_defs.specs.Accepted.{netlist_of};
 ghost use Rattle.cif_defs.specs.Loop.{IsLevelled};
-ghost use Rattle.cif_stim.specs.StimulusText.{stimulus_read};
-ghost use Rattle.cif_stim.specs.Fitting.{fits_of};
-ghost use Rattle.cif_stim.specs.Places.{IsOrdered};
-ghost use Rattle.cif_stim.specs.declared.fault.StimFault.{StimFault as FaultValue};
+ghost use Rattle.cif_stimulus.specs.StimulusText.{stimulus_read};
+ghost use Rattle.cif_stimulus.specs.Fitting.{fits_of};
+ghost use Rattle.cif_stimulus.specs.Places.{IsOrdered};
+ghost use Rattle.cif_stimulus.specs.declared.fault.StimFault.{StimFault as FaultValue};
 ghost use Rattle.cif_desk.specs.Refusals.{stim_refusal};
 ghost use Rattle.cif_desk.specs.Permitted.{FileTold, LongFileTold, IsNetlist, FailsNetlist, NetlistTold, NetlistRefused, StimulusTold, StimulusRefused};
 ghost use Rattle.cif_desk.specs.Stops.{StopsBy, StopsAtFile};
@@ -17,7 +17,8 @@ use cif_cells::Netlist;
 use cif_io::{Store, StoreFault};
 use cif_json::read_netlist;
 use cif_level::{LevelFault, Levels, levels};
-use cif_stim::{Stimulus, read_stimulus};
+use cif_stim_read::read_stimulus;
+use cif_stimulus::Stimulus;
 use std::alloc::Global;
 
 /// A netlist that was accepted, and the order in which its cells are evaluated.

@@ -1,5 +1,5 @@
 // The lines of refusals.
-ghost use Rattle.std.specs.Prelude.{◌≡◌, ◌≢◌, ◌<◌, ◌∷◌, [], ℕ, codes, Some, option_map, EachIndex, slice_index, length, map, Result, IfOk};
+ghost use Rattle.std.specs.Prelude.{◌≡◌, ◌<◌, ◌∷◌, [], codes, Some, option_map, EachIndex, slice_index, length, Result, IfOk};
 ghost use Rattle.std.specs.Fmt.{decimal};
 ghost use Rattle.cif_defs.specs.Text.{coded};
 ghost use Rattle.cif_defs.specs.Messages.{read_fault_line};
@@ -8,11 +8,12 @@ ghost use Rattle.cif_desk.specs.Refusals.{refusal, port_refusal, bit_refusal, js
 ghost use Rattle.cif_desk.specs.Stops.{IsStopOf, IsUnread, StopsBy};
 
 use crate::stop::{Line, Stop};
-use crate::text::{Piece, push_name, refusal_line};
+use crate::text::{Piece, refusal_line};
 use Piece::{Name, Number, Plain};
 use cif_cells::{BuildFault, Netlist, Spot};
 use cif_json::JsonFault;
-use cif_stim::StimFault;
+use cif_stimulus::StimFault;
+use cif_text::push_name;
 use std::alloc::{AllocError, Global};
 
 /// A name after some words.

@@ -1,10 +1,9 @@
 // Texts and the pieces that they are made of.
-ghost use Rattle.std.specs.Prelude.{◌≡◌, ◌<◌, ◌++◌, ◌∷◌, [], map, IfOk, OnOk};
-ghost use Rattle.std.specs.Fmt.{decimal};
-ghost use Rattle.cif_defs.specs.Text.{coded, coded_byte, upper_hex_digit};
+ghost use Rattle.std.specs.Prelude.{◌≡◌, ◌++◌, map, IfOk, OnOk};
 ghost use Rattle.cif_desk.specs.Pieces.{piece_text};
 ghost use Rattle.cif_desk.specs.Refusals.{refusal, line_of, joined};
 
+use cif_text::{push_name, push_number};
 use std::alloc::{AllocError, Global};
 
 /// A piece of a text.
@@ -16,50 +15,6 @@ pub(crate) enum Piece<'a> {
     Name(&'a [u8]),
     /// A number in decimal digits.
     Number(u64),
-}
-
-/// A hexadecimal digit, in upper case.
-fn hexadecimal_digit(digit: u8) -> u8
-    requires { digit < 16 }
-    ensures { result ≡ upper_hex_digit digit }
-{
-    if digit < 10 {
-        b'0' + digit
-    } else {
-        b'A' + (digit - 10)
-    }
-}
-
-fn push_coded_byte(text: &mut Vec<u8>, byte: u8) -> Result<(), AllocError>
-    ensures { OnOk result (text.new.items ≡ text.old.items ++ coded_byte byte) }
-{
-    if matches!(byte, 0x21..=0x7E) && byte != b'%' {
-        text.push(byte)?;
-    } else {
-        text.push(b'%')?;
-        text.push(hexadecimal_digit(byte / 16))?;
-        text.push(hexadecimal_digit(byte % 16))?;
-    }
-    Ok(())
-}
-
-/// Adds a name, coded.
-#[tactic(auto, unfolding(cif_defs::specs::Text::coded))]
-pub(crate) fn push_name(text: &mut Vec<u8>, name: &[u8]) -> Result<(), AllocError>
-    ensures { OnOk result (text.new.items ≡ text.old.items ++ coded name.now) }
-{
-    for byte in name {
-        push_coded_byte(text, *byte)?;
-    }
-    Ok(())
-}
-
-/// Adds a number.
-pub(crate) fn push_number(alloc: Global, text: &mut Vec<u8>, number: u64) -> Result<(), AllocError>
-    ensures { OnOk result (text.new.items ≡ text.old.items ++ decimal number) }
-{
-    let digits = number.to_string(alloc)?;
-    text.extend_from_slice(digits.as_bytes())
 }
 
 fn push_piece(alloc: Global, text: &mut Vec<u8>, piece: &Piece) -> Result<(), AllocError>

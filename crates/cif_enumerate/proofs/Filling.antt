@@ -6,7 +6,7 @@ use Rattle.std.proofs.lemmas.List.{length-map, length-set, get_or_default, get_o
 use Rattle.std.proofs.Math.Seq.{map-set_same}
 use Rattle.cif_defs.specs.Words.{Word, bit, operand}
 use Rattle.cif_defs.specs.Completions.{can_differ, some_word, some_words}
-use Rattle.cif_enumerate.specs.Places.{AreWithin, is_wanted, places_from, places_in, some_filling, with_bit}
+use Rattle.cif_enumerate.specs.TaintedPlaces.{AreWithin, is_wanted, places_from, places_in, some_filling, with_bit}
 use Rattle.cif_enumerate.specs.declared.places.Place.{Place}
 
 -- ---- one word

@@ -1,4 +1,2 @@
 pub mod Filling
-pub mod SingleCells
 pub mod ExactLaws
-pub mod TestCells

@@ -3,7 +3,7 @@
 ghost use Rattle.std.specs.Prelude.{◌≡◌, ◌<◌, length, map, IfOk};
 ghost use Rattle.cif_defs.specs.Words.{operand};
 ghost use Rattle.cif_defs.specs.Completions.{can_differ, some_words};
-ghost use Rattle.cif_enumerate.specs.Places.{AreWithin, is_wanted, some_filling, with_bit};
+ghost use Rattle.cif_enumerate.specs.TaintedPlaces.{AreWithin, is_wanted, some_filling, with_bit};
 
 use crate::function::Function;
 use crate::places::{Place, tainted_places};

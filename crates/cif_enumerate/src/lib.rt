@@ -4,8 +4,6 @@
 //! The time doubles with each tainted bit. The crate is no part of the program: rules of taint are compared with it.
 #![tactic(auto)]
 
-#[cfg(test)]
-mod cell_tests;
 mod differ;
 mod function;
 mod outputs;

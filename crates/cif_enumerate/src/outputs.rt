@@ -10,7 +10,8 @@ ghost use Rattle.cif_enumerate.specs.ExactWords.{Takes, exact_bits, exact_words}
 use crate::differ::can_differ;
 use crate::function::Function;
 use cif_bits::{Bits, NoMemory};
-use cif_cells::{Cell, Role, meaning};
+use cif_kinds::{Cell, Role};
+use cif_meanings::meaning;
 use std::alloc::Global;
 
 /// A bit of an output of a combinational cell.

@@ -1,7 +1,7 @@
 // The places of tainted bits.
 
 ghost use Rattle.std.specs.Prelude.{◌≡◌, ◌++◌, ◌≤◌, length, IfOk};
-ghost use Rattle.cif_enumerate.specs.Places.{places_in, places_from};
+ghost use Rattle.cif_enumerate.specs.TaintedPlaces.{places_in, places_from};
 
 use cif_bits::{Bits, NoMemory};
 use std::alloc::Global;

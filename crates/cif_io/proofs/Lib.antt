@@ -1,2 +1,2 @@
 pub mod OutsideLaws
-pub mod ToldLaws
+pub mod NamedFiles

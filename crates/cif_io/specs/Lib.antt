@@ -1,5 +1,5 @@
 pub mod Outside
 pub mod Counts
 pub mod Lists
-pub mod Told
-pub mod Memory
+pub mod ToldFiles
+pub mod FailingCalls

@@ -116,13 +116,13 @@ impl Model for Files {
 
     ghost Value = { outside.Files };
 
-    ghost use Rattle.cif_io.specs.Told.{told_files};
+    ghost use Rattle.cif_io.specs.ToldFiles.{told_files};
 
     ghost view = { λ f. told_files f.items.items };
 }
 
 impl Files {
-    ghost use Rattle.cif_io.specs.Told.{told_file, told_files};
+    ghost use Rattle.cif_io.specs.ToldFiles.{told_file, told_files};
     ghost use Rattle.cif_io.specs.Outside.{file_named};
 
     /// These files, where the first of a name comes first.

@@ -30,7 +30,7 @@ impl Store for MemStore {
 
     ghost last_failed = { λ s. s.last.items };
 
-    ghost use Rattle.cif_io.specs.Memory.{FailsFetch};
+    ghost use Rattle.cif_io.specs.FailingCalls.{FailsFetch};
 
     fn fetch(&mut self, alloc: Global, name: &str) -> Result<Vec<u8>, StoreFault>
         ensures content { IfOk result (λ v. file_named self.old.files name.now ≡ Some v.items) }
@@ -119,7 +119,7 @@ impl Sink for MemSink {
 
     ghost faults = { λ s. s.faults };
 
-    ghost use Rattle.cif_io.specs.Memory.{FailsWrite, taken_size};
+    ghost use Rattle.cif_io.specs.FailingCalls.{FailsWrite, taken_size};
 
     #[tactic(auto, unfolding(crate::specs::Outside::taken_with))]
     fn write(&mut self, bytes: &[u8]) -> Result<usize, Failed>

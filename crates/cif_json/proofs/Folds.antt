@@ -9,7 +9,7 @@ use Rattle.cif_defs.specs.declared.raw_module.RawParam.{RawParam}
 use Rattle.cif_defs.specs.declared.raw_module.ParamValue.{ParamValue}
 use Rattle.cif_json.specs.declared.misfit.Misfit.{Misfit}
 use Rattle.cif_json.specs.declared.misfit.Misfit.TheVariants.{At, NoMemory}
-use Rattle.cif_json.specs.Reading.{Place, ◌and_then◌, within, each}
+use Rattle.cif_json.specs.WrongPlace.{Place, ◌and_then◌, within, each}
 use Rattle.cif_json.specs.Shape.{bit_of, bits_of_items, kept, param_of}
 use Rattle.cif_json.specs.Answers.{Answers}
 

@@ -1,8 +1,8 @@
 pub mod MemberLaws
 pub mod Folds
-pub mod NumberLaws
+pub mod NonzeroNumbers
 pub mod Binary
 pub mod TopLaws
-pub mod Refusals
+pub mod RefusedBytes
 pub mod OrderedData
 pub mod OrderedModule

@@ -8,7 +8,7 @@ use Rattle.serde_json.specs.Data.{Data}
 use Rattle.serde_json.specs.View.{view}
 use Rattle.serde_json.specs.declared.value.Value.{Value}
 use Rattle.serde_json.proofs.Views.{view-lookup}
-use Rattle.cif_json.specs.Views.{Object, IsWithout}
+use Rattle.cif_json.specs.SeenMembers.{Object, IsWithout}
 
 view_of_choice : (b : Bool) (found : Option Value) (d : Option Data) → option_map view found ≡ d → option_map view (if b then None else found) ≡ (if b then None else d)
 view_of_choice true found d e = refl

@@ -11,7 +11,7 @@ use Rattle.json.specs.Json as json
 use Rattle.serde_json.specs.Data.{Num, Data, null, boolean, number, string, array, object, Items, no_items, item, Members, no_members, member, put}
 use Rattle.serde_json.specs.Read.{number_of, of_json, of_items, of_members, max_depth, read}
 use Rattle.serde_json.specs.Find.{get_member, as_object}
-use Rattle.cif_json.specs.Order.{AreInOrder}
+use Rattle.cif_defs.specs.Order.{AreInOrder}
 
 abbrev pub compared : List ℕ → List ℕ → Ordering
 compared = slice_cmp nat_cmp

@@ -12,11 +12,11 @@ use Rattle.cif_defs.specs.declared.raw_module.RawPort.{RawPort}
 use Rattle.cif_defs.specs.declared.raw_module.RawCell.{RawCell}
 use Rattle.cif_defs.specs.declared.raw_module.RawName.{RawName}
 use Rattle.cif_defs.specs.declared.raw_module.Raw.{Raw}
-use Rattle.cif_json.specs.Reading.{Place, ◌and_then◌, within, needed, members_of, members_if_any, each}
+use Rattle.cif_json.specs.WrongPlace.{Place, ◌and_then◌, within, needed, members_of, members_if_any, each}
 use Rattle.cif_json.specs.Shape.{value_of, parameter, kept, attributes_of, bits_of, connection, needed_in, things_in, attributes_in, direction_of, port, cell, named_net, module_of}
 use Rattle.cif_json.specs.Top.{some_members, modules_of, is_top, with_module, tops_of, only_one, chosen, from_file, netlist_of}
 use Rattle.cif_json.specs.Answers.{ComesTo}
-use Rattle.cif_json.specs.Order.{AreInOrder, param_names, IsCellInOrder, IsNetInOrder, IsInOrder}
+use Rattle.cif_defs.specs.Order.{AreInOrder, param_names, IsCellInOrder, IsNetInOrder, IsInOrder}
 use Rattle.cif_json.proofs.OrderedData.{compared, IsBelowAll, member_names, IsOrdered, AreOrdered, names_in_order, read_ordered, get_ordered, object_members_ordered}
 
 -- ---- a reading that came to something

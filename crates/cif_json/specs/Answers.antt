@@ -7,7 +7,7 @@ use Rattle.cif_json.specs.declared.misfit.Misfit.{Misfit}
 use Rattle.cif_json.specs.declared.misfit.Misfit.TheVariants.{At, NoMemory}
 use Rattle.cif_json.specs.declared.fault.JsonFault.{JsonFault}
 use Rattle.cif_json.specs.declared.fault.JsonFault.TheVariants.{BadJson, NoModules, NoTop, BadShape, Memory}
-use Rattle.cif_json.specs.Reading.{Place, slash}
+use Rattle.cif_json.specs.WrongPlace.{Place, slash}
 use Rattle.cif_json.specs.Top.{netlist_of}
 
 -- the answer is the reading, or there was no memory

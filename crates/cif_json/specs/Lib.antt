@@ -1,6 +1,5 @@
-pub mod Reading
+pub mod WrongPlace
 pub mod Shape
 pub mod Top
 pub mod Answers
-pub mod Views
-pub mod Order
+pub mod SeenMembers

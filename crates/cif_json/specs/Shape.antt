@@ -17,7 +17,7 @@ use Rattle.cif_defs.specs.declared.raw_module.RawCell.{RawCell}
 use Rattle.cif_defs.specs.declared.raw_module.RawName.{RawName}
 use Rattle.cif_defs.specs.declared.raw_module.Raw.{Raw}
 use Rattle.cif_json.specs.declared.scalar.TheConstants.{FLOAT_ZERO}
-use Rattle.cif_json.specs.Reading.{Place, ◌and_then◌, within, needed, members_of, members_if_any, each}
+use Rattle.cif_json.specs.WrongPlace.{Place, ◌and_then◌, within, needed, members_of, members_if_any, each}
 
 -- ---- bits
 

@@ -8,7 +8,7 @@ use Rattle.cif_defs.specs.RawModule.{needed_number}
 use Rattle.cif_defs.specs.declared.raw_module.Raw.{Raw}
 use Rattle.cif_json.specs.declared.fault.JsonFault.{JsonFault}
 use Rattle.cif_json.specs.declared.fault.JsonFault.TheVariants.{NoModules, NoTop, BadShape}
-use Rattle.cif_json.specs.Reading.{Place, ◌and_then◌, within}
+use Rattle.cif_json.specs.WrongPlace.{Place, ◌and_then◌, within}
 use Rattle.cif_json.specs.Shape.{value_of, module_of}
 
 abbrev pub some_members : Members → Option Members

@@ -16,7 +16,7 @@ mod top;
 
 ghost use Rattle.std.specs.Prelude.{◌≡◌, ◌++◌, codes, Ok, IfOk, IfErr};
 ghost use Rattle.serde_json.specs.View.{view};
-ghost use Rattle.cif_json.specs.Order.{IsInOrder};
+ghost use Rattle.cif_defs.specs.Order.{IsInOrder};
 ghost use Rattle.cif_json.specs.Top.{netlist_of};
 ghost use Rattle.cif_json.specs.Answers.{IsFaultOf, IsFirst, ReadsAs, IsUnread, ComesTo, IsRefused};
 

@@ -2,9 +2,9 @@
 ghost use Rattle.std.specs.Prelude.{◌≡◌, option_map};
 ghost use Rattle.serde_json.specs.View.{view, members_view};
 ghost use Rattle.serde_json.specs.Find.{get_member, as_object, as_str};
-ghost use Rattle.cif_json.specs.Reading.{members_if_any as members_of_any, members_of as members_of_data};
+ghost use Rattle.cif_json.specs.WrongPlace.{members_if_any as members_of_any, members_of as members_of_data};
 ghost use Rattle.cif_json.specs.Answers.{Answers};
-ghost use Rattle.cif_json.specs.Views.{members_seen, IsWithout};
+ghost use Rattle.cif_json.specs.SeenMembers.{members_seen, IsWithout};
 
 use crate::misfit::{Misfit, needed};
 use cif_defs::{Listed, Name};

@@ -1,6 +1,6 @@
 // Where a part of a module has a wrong shape.
 ghost use Rattle.std.specs.Prelude.{◌≡◌, ◌∷◌, ◌++◌, [], ℕ, List, Result, IfOk};
-ghost use Rattle.cif_json.specs.Reading.{slash, within as below, needed as needed_here};
+ghost use Rattle.cif_json.specs.WrongPlace.{slash, within as below, needed as needed_here};
 ghost use Rattle.cif_json.specs.Answers.{Answers, IsBelow};
 
 use cif_defs::{Listed, Name};

@@ -4,7 +4,7 @@ ghost use Rattle.serde_json.specs.View.{view, members_view};
 ghost use Rattle.serde_json.specs.Find.{as_str};
 ghost use Rattle.cif_json.specs.Shape.{needed_in, bits_of, direction_of, is_hidden as is_hidden_in, parameter, connection, port, cell, named_net, module_of};
 ghost use Rattle.cif_json.specs.Answers.{Answers};
-ghost use Rattle.cif_json.specs.Views.{IsWithout};
+ghost use Rattle.cif_json.specs.SeenMembers.{IsWithout};
 
 use crate::member::{Members, find, members_of, take, text};
 use crate::misfit::{Misfit, needed, within};

@@ -2,10 +2,10 @@
 ghost use Rattle.std.specs.Prelude.{◌≡◌, ℕ, List, Result, option_map, IfOk, Ok, codes};
 ghost use Rattle.serde_json.specs.Data.{Data};
 ghost use Rattle.serde_json.specs.View.{view, members_view};
-ghost use Rattle.cif_json.specs.Reading.{each, members_if_any as members_of_any, ◌and_then◌};
+ghost use Rattle.cif_json.specs.WrongPlace.{each, members_if_any as members_of_any, ◌and_then◌};
 ghost use Rattle.cif_json.specs.Shape.{things_in as things_of, attributes_of as attributes_read, attributes_in as attributes_found};
 ghost use Rattle.cif_json.specs.Answers.{Answers};
-ghost use Rattle.cif_json.specs.Views.{IsWithout};
+ghost use Rattle.cif_json.specs.SeenMembers.{IsWithout};
 
 use crate::member::{Members, members_if_any, take};
 use crate::misfit::{Misfit, within};

@@ -1,5 +1,6 @@
 pub mod Driving
 pub mod Outputs
-pub mod Rings
+pub mod RingLaws
 pub mod Searches
-pub mod Kept
+pub mod SearchSteps
+pub mod LeastNames

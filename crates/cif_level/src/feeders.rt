@@ -1,9 +1,8 @@
 // The passing cells that drive operand bits of a cell.
 ghost use Rattle.std.specs.Prelude.{◌≡◌, ◌≢◌, ℕ, ◌<◌, ◌≤◌, length, get_or, Some, None, IfSome};
 ghost use Rattle.cif_defs.specs.Accepted.{netlist_of};
-ghost use Rattle.cif_defs.specs.Cells.{reset_operand as reset_operand_of};
 ghost use Rattle.cif_defs.specs.Kinds.{role_of};
-ghost use Rattle.cif_defs.specs.Loop.{counts as counts_at, is_passing as is_passing_role};
+ghost use Rattle.cif_defs.specs.Loop.{counts as counts_at};
 ghost use Rattle.cif_defs.specs.Netlist.{IsWired, cell_at};
 ghost use Rattle.cif_defs.specs.declared.nets.Src.TheVariants.{Bit, Zero};
 ghost use Rattle.cif_level.specs.declared.feeders.Mark.TheVariants.{Placed};
@@ -11,7 +10,7 @@ ghost use Rattle.cif_level.specs.Feeding.{feeder_of, feeder_at};
 ghost use Rattle.cif_level.specs.Searching.{mark_of, next_port, ArePlaced, AreBefore, AreAllPlaced};
 
 use cif_cells::table::role;
-use cif_cells::{Cell, Driver, Kind, NetBit, Netlist, Src};
+use cif_cells::{Cell, Driver, NetBit, Netlist, Src};
 use cif_defs::Role;
 
 /// How far the search is with a cell.
@@ -43,26 +42,6 @@ pub(crate) struct Feed {
     pub(crate) cell: u32,
 }
 
-/// Whether cells of a role drive others within the cycle.
-pub(crate) fn is_passing(role: Role) -> bool
-    ensures { result ≡ is_passing_role role }
-{
-    match role {
-        Role::Combinational | Role::ResetRegister | Role::MemoryBlock => true,
-        Role::PlainRegister | Role::CarriedOver => false,
-    }
-}
-
-/// The operand that resets a register with asynchronous reset.
-fn reset_operand(kind: Kind) -> u32
-    ensures { result ≡ reset_operand_of kind }
-{
-    match kind {
-        Kind::Adffe => 2,
-        _ => 1,
-    }
-}
-
 /// Whether the outputs of a cell follow this operand within the cycle.
 fn counts(cell: &Cell, port: u32) -> bool
     ensures { result ≡ counts_at (role_of cell.now.kind) cell.now port }
@@ -70,7 +49,7 @@ fn counts(cell: &Cell, port: u32) -> bool
     match role(cell.kind()) {
         Role::Combinational => true,
         Role::MemoryBlock => port == 0,
-        Role::ResetRegister => port == reset_operand(cell.kind()),
+        Role::ResetRegister => port == cell.kind().reset_operand(),
         Role::PlainRegister | Role::CarriedOver => false,
     }
 }
@@ -84,7 +63,7 @@ fn bit_feeder(netlist: &Netlist, bit: NetBit) -> Option<u32>
 {
     match netlist.driver(bit) {
         Driver::Output { cell, .. } | Driver::Read { cell, .. } => Some(cell),
-        Driver::Register { cell, .. } if is_passing(role(netlist.cells()[cell as usize].kind())) =>
+        Driver::Register { cell, .. } if role(netlist.cells()[cell as usize].kind()).is_passing() =>
             { Some(cell) }
         Driver::Register { .. } | Driver::Input { .. } | Driver::Clock => None,
     }

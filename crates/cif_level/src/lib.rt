@@ -10,8 +10,6 @@ mod feeders;
 mod order;
 mod ring;
 mod search;
-#[cfg(test)]
-mod tests;
 
 pub use fault::{LevelFault, Places};
 pub use order::Levels;

@@ -1,15 +1,15 @@
 // The search for an order.
 ghost use Rattle.std.specs.Prelude.{◌≡◌, ◌≢◌, ℕ, ◌-◌, ◌<◌, ◌≤◌, List, [], ◌∷◌, ◌++◌, true, length, get_or, replicate, slice_set, Some, IsOk, IfOk, IfErr, OnOk, IsTrue, ◌↔◌};
 ghost use Rattle.cif_defs.specs.Accepted.{netlist_of};
-ghost use Rattle.cif_defs.specs.Loop.{IsLevelled, IsLoop, is_passing as is_passing_role};
+ghost use Rattle.cif_defs.specs.Loop.{IsLevelled, IsLoop, is_passing};
 ghost use Rattle.cif_defs.specs.Netlist.{IsWired, role_at};
 ghost use Rattle.cif_level.specs.declared.feeders.Mark.TheVariants.{Unseen, OnPath, Placed};
 ghost use Rattle.cif_level.specs.Feeding.{feeder_at};
-ghost use Rattle.cif_level.specs.LevelFaults.{IsReal};
+ghost use Rattle.cif_level.specs.LevelFaults.{HasLeastNameFirst, IsReal};
 ghost use Rattle.cif_level.specs.Searching.{IsLast, mark_of, first_place, place_of, AreBefore, AreAllPlaced, Keeps, IsFurther, Follows};
 
 use crate::fault::LevelFault;
-use crate::feeders::{Mark, OperandPlace, is_passing, next_feed};
+use crate::feeders::{Mark, OperandPlace, next_feed};
 use crate::order::Levels;
 use crate::ring::closed_loop;
 use cif_cells::Netlist;
@@ -130,7 +130,7 @@ impl Search {
         requires keeps { Keeps (netlist_of netlist.now) self.old }
         requires no_path { self.old.path.items ≡ [] }
         requires unseen { mark_of self.old.marks.items start ≡ Unseen }
-        requires passing { is_passing_role (role_at (netlist_of netlist.now) start) ≡ true }
+        requires passing { is_passing (role_at (netlist_of netlist.now) start) ≡ true }
         ensures keeps { OnOk result (Keeps (netlist_of netlist.now) self.new) }
         ensures no_path { OnOk result (self.new.path.items ≡ []) }
         ensures placed { OnOk result (mark_of self.new.marks.items start ≡ Placed) }
@@ -149,13 +149,13 @@ impl Search {
 fn searched(alloc: Global, netlist: &Netlist) -> Result<Search, LevelFault>
     requires { IsWired (netlist_of netlist.now) }
     ensures keeps { IfOk result (Keeps (netlist_of netlist.now)) }
-    ensures placed { IfOk result (λ s. (c : ℕ) → c < length (netlist_of netlist.now).cells → is_passing_role (role_at (netlist_of netlist.now) c) ≡ true → mark_of s.marks.items c ≡ Placed) }
+    ensures placed { IfOk result (λ s. (c : ℕ) → c < length (netlist_of netlist.now).cells → is_passing (role_at (netlist_of netlist.now) c) ≡ true → mark_of s.marks.items c ≡ Placed) }
     ensures err { IfErr result (IsReal (netlist_of netlist.now)) }
 {
     let cells = netlist.cells();
     let mut search = Search::new(alloc, cells.len())?;
     for cell in 0..cells.len() as u32 {
-        if search.is_unseen(cell) && is_passing(role(cells[cell as usize].kind())) {
+        if search.is_unseen(cell) && role(cells[cell as usize].kind()).is_passing() {
             search.settle(alloc, netlist, cell)?;
         }
     }
@@ -163,15 +163,16 @@ fn searched(alloc: Global, netlist: &Netlist) -> Result<Search, LevelFault>
 }
 
 /// The order in which the passing cells of a netlist are evaluated, each after those that drive it. Where cells drive
-/// each other in a loop there is no order, and a loop is the answer. It takes as long as a walk over the cells and
-/// their operand bits, and some thirty bytes for each cell.
+/// each other in a loop there is no order, and a loop is the answer, the cell of the least name first. It takes as long
+/// as a walk over the cells and their operand bits, and some thirty bytes for each cell.
 pub fn levels(alloc: Global, netlist: &Netlist) -> Result<Levels, LevelFault>
     ensures order { IfOk result (IsLevelled (netlist_of netlist.now)) }
     ensures no_loop { OnOk result ((cells : List ℕ) → ¬ IsLoop (netlist_of netlist.now) cells) }
     ensures err { IfErr result (IsReal (netlist_of netlist.now)) }
+    ensures least_name { IfErr result (HasLeastNameFirst (netlist_of netlist.now)) }
 {
-    // the module tells that it was accepted, and so that its bits are wired
-    let _ = netlist.raw();
+    // the cells tell that the module was accepted, and so that its bits are wired and its names in order
+    let _ = netlist.cells();
     let search = searched(alloc, netlist)?;
     Ok(Levels::of(search.order))
 }

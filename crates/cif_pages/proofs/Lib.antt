@@ -1,2 +1,2 @@
-pub mod Places
-pub mod Cuts
+pub mod PagePlaces
+pub mod PageCuts

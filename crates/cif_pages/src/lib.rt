@@ -11,7 +11,5 @@
 mod page;
 mod paged;
 mod shelf;
-#[cfg(test)]
-mod tests;
 
 pub use paged::Paged;

@@ -16,15 +16,15 @@ use Rattle.cif_defs.specs.declared.kinds.Kind.TheVariants.{Mem}
 use Rattle.cif_defs.specs.declared.kinds.Role.{Role}
 use Rattle.cif_defs.specs.declared.kinds.Role.TheVariants.{Combinational, MemoryBlock, ResetRegister}
 use Rattle.cif_defs.specs.declared.raw_module.Raw.{Raw}
-use Rattle.cif_cells.specs.Checks.{IsAccepted}
+use Rattle.cif_checks.specs.Checks.{IsAccepted}
 use Rattle.cif_cells.specs.NetlistView.{AreFitted}
-use Rattle.cif_cells.specs.StateCells.{HasMemoryNumbers}
+use Rattle.cif_kinds.specs.StateCells.{HasMemoryNumbers}
 use Rattle.cif_cells.proofs.FittedCells.{fitted_at}
 use Rattle.cif_cells.proofs.MemoryCells.{memory_numbers}
-use Rattle.cif_cells.proofs.Wired.{memory_kind}
-use Rattle.cif_seq.specs.CellWords.{AreNarrow}
-use Rattle.cif_seq.proofs.ShownLaws.{ports_of_register}
-use Rattle.cif_seq.proofs.TaintWords.{narrow_operands, taints_wide, words_wide}
+use Rattle.cif_nets.proofs.Wired.{memory_kind}
+use Rattle.cif_cycle.specs.CellWords.{AreNarrow}
+use Rattle.cif_cycle.proofs.ResetWords.{ports_of_register}
+use Rattle.cif_cycle.proofs.SourceWords.{narrow_operands, taints_wide, words_wide}
 
 cell_found : (raw : Raw) (cells : List Cell) (c : ℕ) (x : Cell) → cells ≡ (netlist_of raw).cells → x ≡ get_or cells c x → c < length (netlist_of raw).cells → x ≡ cell_at (netlist_of raw) c
 cell_found raw cells c x e h l = h ∙ ap (λ (xs : List Cell). get_or xs c x) e ∙ get_or_default (netlist_of raw).cells c x no_cell l

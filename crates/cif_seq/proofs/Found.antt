@@ -1,9 +1,13 @@
 -- What a cell is evaluated to, from what the calls of an evaluation say.
 use Rattle.std.specs.Prelude.{ℕ, ◌+◌, ◌*◌, ◌<◌, ◌≤◌, ◌≡◌, Bool, false, List, [], length, map, get_or, refl}
-use Rattle.std.proofs.Common.{arith, ap, sym, ◌∙◌, subst}
+use Rattle.std.proofs.Common.{arith, ap, sym, ◌∙◌, subst, inl, inr}
+use Rattle.std.proofs.lemmas.List.{get_or_past, length-map}
+use Rattle.std.proofs.lemmas.List.FromFn.{get_or-map-range_with_len}
 use Rattle.cif_defs.specs.Words.{Word, bit, operand}
 use Rattle.cif_defs.specs.Cells.{Cell, meaning, number_of, reset_operand, shown_word, width}
-use Rattle.cif_defs.specs.Fitted.{IsFitted}
+use Rattle.cif_defs.specs.Fitted.{IsFitted, row_width}
+use Rattle.cif_defs.specs.Table.{outputs_of}
+use Rattle.cif_defs.proofs.WordLaws.{bit-word, le_or_lt}
 use Rattle.cif_defs.specs.Kinds.{role_of}
 use Rattle.cif_defs.specs.Taint.{output_taint, shown_taint}
 use Rattle.cif_defs.specs.Netlist.{IsWired, Netlist, cell_at, role_at}
@@ -11,14 +15,14 @@ use Rattle.cif_defs.specs.Run.{operand_words}
 use Rattle.cif_defs.specs.TaintRun.{TaintState, operand_taints}
 use Rattle.cif_defs.specs.declared.kinds.Param.TheVariants.{RdPorts}
 use Rattle.cif_defs.specs.declared.kinds.Role.TheVariants.{Combinational, MemoryBlock, ResetRegister}
-use Rattle.cif_cells.specs.StateCells.{HasMemoryNumbers}
-use Rattle.cif_term.specs.CellTaints.{output_width}
-use Rattle.cif_seq.specs.CellWords.{read_taints, read_words}
+use Rattle.cif_kinds.specs.StateCells.{HasMemoryNumbers}
+use Rattle.cif_term.specs.CellTaints.{output_width, taint_word, taint_words}
+use Rattle.cif_cycle.specs.CellWords.{read_taints, read_words}
 use Rattle.cif_seq.specs.Settled.{EvaluatesTaints, EvaluatesValues, Marks}
 use Rattle.cif_seq.specs.Writes.{put_word, put_words}
 use Rattle.cif_seq.proofs.Evaluated.{memory_taints, memory_values, outputs_taints, outputs_values, register_taints, register_values}
-use Rattle.cif_seq.proofs.ReadLaws.{ports_of_memory}
-use Rattle.cif_seq.proofs.ShownLaws.{ports_of_register}
+use Rattle.cif_cycle.proofs.MemoryReads.{ports_of_memory}
+use Rattle.cif_cycle.proofs.ResetWords.{ports_of_register}
 
 pub outputs_values_found : (n : Netlist) (c : ℕ) (x : Cell) (stored given vs ws written : List Word) (outs : _) (old new : List Bool) → IsWired n → role_at n c ≡ Combinational → length old ≡ length n.drivers → x ≡ cell_at n c
     → outs ≡ x.outputs → given ≡ vs → vs ≡ operand_words (bit old) x → ws ≡ meaning x given → written ≡ ws → new ≡ put_words [] outs written old → EvaluatesValues n stored c old new
@@ -26,14 +30,26 @@ outputs_values_found n c x stored given vs ws written outs old new w role size h
     outputs_values n c stored written old new w role size (hs ∙ hw ∙ ap (λ (us : List Word). meaning x us) (hg ∙ hv) ∙ ap (λ (z : Cell). meaning z (operand_words (bit old) z)) hx)
     (k ∙ ap (λ (ts : _). put_words [] ts written old) (ho ∙ ap (λ (z : Cell). z.outputs) hx))
 
+width_past : (c : Cell) (p : ℕ) → length (outputs_of c.kind) ≤ p → output_width c p ≡ 0
+width_past c p h = get_or_past (map (row_width c) (outputs_of c.kind)) p 0 (let e : length (map (row_width c) (outputs_of c.kind)) ≡ length (outputs_of c.kind) = length-map (outputs_of c.kind) (row_width c) in omega arith)
+
+-- the bits of the taint words of a cell
+taints_given : (c : Cell) (vs ts given : List Word) (p i : ℕ) → given ≡ taint_words c vs ts → i < output_width c p → bit (operand given p) i ≡ output_taint c p i vs ts
+taints_given c vs ts given p i f h = elim (le_or_lt p (length (outputs_of c.kind))) [
+  | inl l ↦ ap (λ (ws : List Word). bit (operand ws p) i) f
+      ∙ ap (λ (w : Word). bit w i) (get_or-map-range_with_len (taint_word c vs ts) 0 (length (outputs_of c.kind)) p p [] l (omega arith))
+      ∙ bit-word (output_width c p) (λ k. output_taint c p k vs ts) i false h
+  | inr l ↦ absurd (let z : output_width c p ≡ 0 = width_past c p l in omega arith)
+]
+
 pub outputs_taints_found : (n : Netlist) (c : ℕ) (x : Cell) (stored : List Word) (t : TaintState) (released : ℕ → Bool) (marks : List Bool) (given_vs given_ts vs ts ws written : List Word) (outs : _) (values old new : List Bool) → IsWired n → role_at n c ≡ Combinational
     → length old ≡ length n.drivers → Marks n marks released → x ≡ cell_at n c → IsFitted x → outs ≡ x.outputs → given_vs ≡ vs → given_ts ≡ ts → vs ≡ operand_words (bit values) x → ts ≡ operand_taints (bit old) x
-    → ((p i : ℕ) → i < output_width x p → bit (operand ws p) i ≡ output_taint x p i given_vs given_ts) → written ≡ ws → new ≡ put_words marks outs written old → EvaluatesTaints n stored values t released c old new
+    → ws ≡ taint_words x given_vs given_ts → written ≡ ws → new ≡ put_words marks outs written old → EvaluatesTaints n stored values t released c old new
 outputs_taints_found n c x stored t released marks given_vs given_ts vs ts ws written outs values old new w role size m hx fit ho hgv hgt hv ht hw hs k =
     outputs_taints n c stored written t released marks values old new w role size m
     (λ p i l.
     let wide : get_or (map length (cell_at n c).outputs) p 0 ≡ output_width x p = ap (λ (z : Cell). get_or (map length z.outputs) p 0) (sym hx) ∙ ap (λ ns. get_or ns p 0) fit.outputs in
-    ap (λ (us : List Word). bit (operand us p) i) hs ∙ hw p i (omega arith) ∙ ap (λ (us : List Word). output_taint x p i us given_ts) (hgv ∙ hv) ∙ ap (λ (us : List Word). output_taint x p i (operand_words (bit values) x) us) (hgt ∙ ht)
+    ap (λ (us : List Word). bit (operand us p) i) hs ∙ taints_given x given_vs given_ts ws p i hw (omega arith) ∙ ap (λ (us : List Word). output_taint x p i us given_ts) (hgv ∙ hv) ∙ ap (λ (us : List Word). output_taint x p i (operand_words (bit values) x) us) (hgt ∙ ht)
     ∙ ap (λ (z : Cell). output_taint z p i (operand_words (bit values) z) (operand_taints (bit old) z)) hx)
     (k ∙ ap (λ (us : _). put_words marks us written old) (ho ∙ ap (λ (z : Cell). z.outputs) hx))
 

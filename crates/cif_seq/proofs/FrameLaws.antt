@@ -17,14 +17,14 @@ use Rattle.cif_defs.specs.declared.nets.Wire.{Wire}
 use Rattle.cif_defs.specs.declared.raw_module.Raw.{Raw}
 use Rattle.cif_defs.proofs.Noninterference.{noninterference, state_noninterference}
 use Rattle.cif_defs.proofs.WordLaws.{le_or_lt}
-use Rattle.cif_stim.specs.Cursor.{IsAt, IsMapOf, cycle_of}
-use Rattle.cif_stim.specs.declared.inputs.InputMap.{InputMap}
-use Rattle.cif_stim.specs.declared.inputs.Inputs.{Inputs}
+use Rattle.cif_inputs.specs.Cursor.{IsAt, IsMapOf, cycle_of}
+use Rattle.cif_inputs.specs.declared.inputs.InputMap.{InputMap}
+use Rattle.cif_inputs.specs.declared.inputs.Inputs.{Inputs}
 use Rattle.cif_seq.specs.Cases.{CaseOf, HoldsFrame, net_of}
 use Rattle.cif_seq.specs.Inputs.{StandsAt}
 use Rattle.cif_seq.specs.Stored.{IsStored}
 use Rattle.cif_seq.proofs.StateWidths.{is_stored}
-use Rattle.cif_seq.proofs.Steps.{same_function}
+use Rattle.cif_seq.proofs.EvaluationSteps.{same_function}
 
 -- ---- the cursor
 

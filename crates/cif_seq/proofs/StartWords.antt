@@ -9,10 +9,10 @@ use Rattle.cif_defs.specs.Netlist.{Netlist, cell_at, no_cell}
 use Rattle.cif_defs.specs.Stimulus.{Stimulus, StimLine as LineData, TaintedWord, started_by, start_at, sized}
 use Rattle.cif_defs.specs.declared.raw_module.Raw.{Raw}
 use Rattle.cif_defs.proofs.WordLaws.{length-word, bit-word}
-use Rattle.cif_cells.specs.Checks.{IsAccepted}
+use Rattle.cif_checks.specs.Checks.{IsAccepted}
 use Rattle.cif_cells.proofs.StateLaws.{few_state_bits}
-use Rattle.cif_stim.specs.StimulusView.{line_seen, tainted}
-use Rattle.cif_stim.specs.declared.line.StimLine.{StimLine}
+use Rattle.cif_stimulus.specs.StimulusView.{line_seen, tainted}
+use Rattle.cif_stimulus.specs.declared.line.StimLine.{StimLine}
 use Rattle.cif_seq.specs.Starts.{starts_named, start_from, line_at, lines_left, IsTableFrom, SameBits, StartsAt, StartedTo}
 use Rattle.cif_seq.specs.declared.starts.StartLines.{StartLines}
 use Rattle.cif_seq.proofs.StartLaws.{same_started, same_along, sized_value, sized_taint, is_start}

@@ -3,8 +3,8 @@ use Rattle.cif_defs.specs.Accepted.{netlist_of}
 use Rattle.cif_defs.specs.Loop.{IsLevelled}
 use Rattle.cif_defs.specs.Stimulus.{is_released}
 use Rattle.std.specs.Prelude.{◌≡◌, true}
-use Rattle.cif_stim.specs.Cursor.{IsMapOf}
-use Rattle.cif_stim.specs.Fitting.{fits_of}
+use Rattle.cif_inputs.specs.Cursor.{IsMapOf}
+use Rattle.cif_stimulus.specs.Fitting.{fits_of}
 use Rattle.cif_seq.specs.Cases.{CaseOf}
 use Rattle.cif_seq.specs.Settled.{Marks}
 use Rattle.cif_seq.specs.declared.case.Case.TheInside.{Inside}

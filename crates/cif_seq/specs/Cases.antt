@@ -6,7 +6,7 @@ use Rattle.cif_defs.specs.Netlist.{Netlist}
 use Rattle.cif_defs.specs.Stimulus.{Stimulus}
 use Rattle.cif_defs.specs.TaintRun.{IsFrame}
 use Rattle.cif_defs.specs.declared.raw_module.Raw.{Raw}
-use Rattle.cif_stim.specs.declared.inputs.Inputs.{Inputs}
+use Rattle.cif_inputs.specs.declared.inputs.Inputs.{Inputs}
 use Rattle.cif_seq.specs.Inputs.{StandsAt}
 
 -- an accepted module, a levelled order of its cells, and a stimulus

@@ -1,13 +1,8 @@
-pub mod Covering
-pub mod CellWords
 pub mod Writes
 pub mod Settled
 pub mod Stored
 pub mod Inputs
 pub mod Cases
 pub mod CaseView
-pub mod Rows
-pub mod StateWords
-pub mod Memories
 pub mod Starts
 pub mod States

@@ -4,8 +4,7 @@ use Rattle.cif_defs.specs.Words.{Word, bit}
 use Rattle.cif_defs.specs.Netlist.{Netlist, driver_of}
 use Rattle.cif_defs.specs.Run.{driver_value, driver_value_at_depth_0, value_in}
 use Rattle.cif_defs.specs.TaintRun.{TaintState, driver_taint, driver_taint_at_depth_0}
--- evaluation in an order is defined beside the law that it gives the settled bits, which is proved there
-use Rattle.cif_defs.proofs.Levels.{evaluate, evaluate_one}
+use Rattle.cif_defs.specs.Evaluation.{evaluate, evaluate_one}
 
 -- marks are the released net bits
 abbrev pub Marks : Netlist → List Bool → (ℕ → Bool) → Type 0

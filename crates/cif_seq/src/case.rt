@@ -8,17 +8,18 @@ ghost use Rattle.cif_defs.specs.Kinds.{role_of};
 ghost use Rattle.cif_defs.specs.Loop.{IsLevelled};
 ghost use Rattle.cif_defs.specs.Netlist.{IsWired, cell_at};
 ghost use Rattle.cif_defs.specs.Stimulus.{is_bit, is_released};
-ghost use Rattle.cif_cells.specs.StateCells.{HasMemoryNumbers};
-ghost use Rattle.cif_stim.specs.Cursor.{IsMapOf};
-ghost use Rattle.cif_stim.specs.Fitting.{fits_of};
-ghost use Rattle.cif_stim.specs.StimulusView.{line_seen};
+ghost use Rattle.cif_kinds.specs.StateCells.{HasMemoryNumbers};
+ghost use Rattle.cif_inputs.specs.Cursor.{IsMapOf};
+ghost use Rattle.cif_stimulus.specs.Fitting.{fits_of};
+ghost use Rattle.cif_stimulus.specs.StimulusView.{line_seen};
 ghost use Rattle.cif_seq.specs.Cases.{net_of};
 ghost use Rattle.cif_seq.specs.Settled.{Marks};
 
 use cif_bits::NoMemory;
 use cif_cells::{Cell, Netlist, Role, Src};
+use cif_inputs::InputMap;
 use cif_level::Levels;
-use cif_stim::{InputMap, StimLine, Stimulus};
+use cif_stimulus::{StimLine, Stimulus};
 use std::alloc::{AllocError, Global};
 use std::marker::Model;
 

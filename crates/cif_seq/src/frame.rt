@@ -8,15 +8,15 @@ ghost use Rattle.cif_defs.specs.TaintRun.{taint, taint_state, state_value, state
 ghost use Rattle.cif_seq.specs.Cases.{frame_of, net_of};
 ghost use Rattle.cif_seq.specs.Inputs.{StandsAt};
 
-use crate::bits::bit_of;
 use crate::case::Case;
 use crate::inputs::{first_inputs, next_inputs};
 use crate::settle::{settled, state_bit};
 use crate::state::{next_words, start_words};
-use crate::stored::StoredWords;
 use cif_bits::NoMemory;
 use cif_cells::NetBit;
-use cif_stim::{Inputs, Pair};
+use cif_cycle::{StoredWords, bit_of};
+use cif_inputs::Inputs;
+use cif_stimulus::Pair;
 use std::alloc::Global;
 use std::marker::Model;
 use std::sync::Arc;

@@ -2,13 +2,14 @@
 ghost use Rattle.std.specs.Prelude.{◌≡◌, ◌+◌, ◌<◌, ◌^◌, length, IfOk};
 ghost use Rattle.cif_defs.specs.Run.{input_value};
 ghost use Rattle.cif_defs.specs.TaintRun.{input_taint};
-ghost use Rattle.cif_stim.specs.Cursor.{cycle_of};
+ghost use Rattle.cif_inputs.specs.Cursor.{cycle_of};
 ghost use Rattle.cif_seq.specs.Cases.{net_of};
 ghost use Rattle.cif_seq.specs.Inputs.{StandsAt};
 
 use crate::case::Case;
 use cif_bits::NoMemory;
-use cif_stim::{Inputs, Pair};
+use cif_inputs::Inputs;
+use cif_stimulus::Pair;
 use std::alloc::Global;
 
 /// The cursor of cycle 0.

@@ -7,24 +7,21 @@ ghost use Rattle.cif_defs.specs.Loop.{is_passing};
 ghost use Rattle.cif_defs.specs.Stimulus.{is_released};
 ghost use Rattle.cif_defs.specs.Run.{driver_value_at_depth_0, value_in, register_at_depth_0, input_value};
 ghost use Rattle.cif_defs.specs.TaintRun.{TaintState, driver_taint_at_depth_0, settled_taint, input_taint};
-ghost use Rattle.cif_stim.specs.Cursor.{cycle_of};
+ghost use Rattle.cif_inputs.specs.Cursor.{cycle_of};
 ghost use Rattle.cif_seq.specs.Cases.{net_of};
 ghost use Rattle.cif_seq.specs.Inputs.{StandsAt};
 ghost use Rattle.cif_seq.specs.Stored.{IsStored};
 ghost use Rattle.cif_seq.specs.Settled.{EvaluatesValues, EvaluatesTaints, ValuesFollow, TaintsFollow};
 
-use crate::bits::bit_of;
 use crate::case::Case;
-use crate::cell::cell_words;
-use crate::gather::{taint_words, value_words};
 use crate::inputs::input_pair;
-use crate::reads::read_data;
-use crate::shown::shown_words;
-use crate::stored::{StateWord, StoredWords};
 use crate::write::{write_word, write_words};
 use cif_bits::NoMemory;
-use cif_cells::{Driver, Netlist, Role, table};
-use cif_stim::{Inputs, Pair};
+use cif_cells::{Driver, Netlist, Role, meaning, table};
+use cif_cycle::{StateWord, StoredWords, bit_of, read_data, shown_words, taint_words, value_words};
+use cif_inputs::Inputs;
+use cif_rules::taint_of;
+use cif_stimulus::Pair;
 use std::alloc::Global;
 
 // ---- cells
@@ -50,9 +47,10 @@ fn evaluate_combinational(
     let cell = case.cell(number);
     let operand_values = value_words(alloc, values, cell)?;
     let operand_taints = taint_words(alloc, taints, cell)?;
-    let words = cell_words(alloc, cell, &operand_values, &operand_taints)?;
-    write_words(values, &[], cell.outputs(), &words.values);
-    write_words(taints, case.released(), cell.outputs(), &words.taints);
+    let words = meaning(alloc, cell, &operand_values)?;
+    let word_taints = taint_of(alloc, cell, &operand_values, &operand_taints)?;
+    write_words(values, &[], cell.outputs(), &words);
+    write_words(taints, case.released(), cell.outputs(), &word_taints);
     Ok(())
 }
 

@@ -5,14 +5,14 @@ ghost use Rattle.cif_defs.specs.Cells.{Cell as CellData, state_bits, width};
 ghost use Rattle.cif_defs.specs.Accepted.{netlist_of};
 ghost use Rattle.cif_defs.specs.Netlist.{cell_at};
 ghost use Rattle.cif_defs.specs.Stimulus.{StimLine as LineData, start_at, started_by, with_row};
-ghost use Rattle.cif_stim.specs.StimulusView.{line_seen, tainted};
-ghost use Rattle.cif_seq.specs.Rows.{IsPutAt};
+ghost use Rattle.cif_stimulus.specs.StimulusView.{line_seen, tainted};
+ghost use Rattle.cif_cycle.specs.Rows.{IsPutAt};
 ghost use Rattle.cif_seq.specs.Starts.{starts_named, start_from, line_at, IsTableFrom, SameBits};
 
-use crate::bits::bit_of;
 use cif_bits::NoMemory;
 use cif_cells::{Cell, Netlist, Param, Role, table};
-use cif_stim::{StimLine, Stimulus};
+use cif_cycle::{Tainted, bit_of};
+use cif_stimulus::{StimLine, Stimulus};
 use std::alloc::{AllocError, Global};
 use std::collections::BTreeMap;
 
@@ -23,15 +23,6 @@ pub struct StartLines<'a> {
     first: BTreeMap<&'a [u8], usize>,
     // For each such line the next of its name.
     following: Vec<Option<usize>>,
-}
-
-/// The word with which a register or a memory starts, and its taint.
-#[derive(Drop)]
-pub struct StartWord {
-    /// The word.
-    pub value: Vec<bool>,
-    /// Its taint.
-    pub taint: Vec<bool>,
 }
 
 /// The name of the register or memory of which a line says what it starts with.
@@ -216,7 +207,7 @@ pub fn start_word<'a>(
     stimulus: &'a Stimulus,
     table: &StartLines<'a>,
     number: u32,
-) -> Result<StartWord, NoMemory>
+) -> Result<Tainted<Vec<bool>>, NoMemory>
     requires number { number < length (netlist_of netlist.now).cells }
     requires table { IsTableFrom stimulus.now.lines 0 table.now }
     ensures value { IfOk result
@@ -231,5 +222,5 @@ pub fn start_word<'a>(
     let mut value = given_word(alloc, netlist, number, size)?;
     let mut taint = clear_word(alloc, size)?;
     take_lines(cell, rows, lines, table, &mut value, &mut taint);
-    Ok(StartWord { value, taint })
+    Ok(Tainted { value, taint })
 }

@@ -10,14 +10,14 @@ ghost use Rattle.cif_defs.specs.TaintRun.{flag_by, next_taints, taint_state, tai
 ghost use Rattle.cif_seq.specs.Starts.{IsTableFrom};
 ghost use Rattle.cif_seq.specs.Stored.{IsStored};
 
-use crate::gather::{taint_words, value_words};
-use crate::memory::next_memory;
-use crate::registers::next_register;
 use crate::starts::{StartLines, start_word};
-use crate::stored::{CellState, StateRef, StateWord, StoredWords};
 use cif_bits::NoMemory;
 use cif_cells::{Netlist, Role, table};
-use cif_stim::Stimulus;
+use cif_cycle::{
+    CellState, StateRef, StateWord, StoredWords, next_memory, next_register, taint_words,
+    value_words,
+};
+use cif_stimulus::Stimulus;
 use std::alloc::Global;
 
 /// What a cell without state stores: words of no bits, and this flag.

@@ -1,11 +1,21 @@
 // Words written to the net bits that a cell's outputs drive.
 ghost use Rattle.std.specs.Prelude.{◌≡◌};
+ghost use Rattle.cif_defs.specs.Words.{operand};
 ghost use Rattle.cif_seq.specs.Writes.{put_word, put_words};
 
-use crate::bits::bit_of;
-use crate::cell::port_bits;
 use cif_bits::Bits;
 use cif_cells::{NetBit, Targets};
+use cif_cycle::bit_of;
+
+/// The bits of the word of `port`; none where there is no such port.
+fn port_bits(words: &[Bits], port: usize) -> &[bool]
+    ensures { result.now ≡ operand words.now port }
+{
+    match words.get(port) {
+        Some(word) => word.bits(),
+        None => &[],
+    }
+}
 
 /// Writes a word to the net bits of one output; a bit that `marks` has is written as 0.
 pub fn write_word(bits: &mut [bool], marks: &[bool], targets: &[Option<NetBit>], word: &[bool])

@@ -1,6 +1,8 @@
-pub mod Forms
+pub mod FormedFormulas
 pub mod Values
-pub mod CellTaints
+pub mod ExactTaintWords
+pub mod ShadowTerms
+pub mod OutputTerms
 pub mod Views
 pub mod Widened
 pub mod Lengths

@@ -1,6 +1,6 @@
 -- What the terms of a cell have to be.
 use Rattle.std.specs.Prelude.{ℕ, ◌≡◌, ◌<◌, ◌≤◌, List, [], map, length, get_or, Some}
-use Rattle.std.specs.List.{sum_by}
+use Rattle.std.specs.List.{range_with_len, sum_by}
 use Rattle.cif_defs.specs.Words.{Word, word}
 use Rattle.cif_defs.specs.Cells.{Cell}
 use Rattle.cif_defs.specs.Table.{outputs_of}
@@ -16,6 +16,10 @@ output_width c p = get_or (map (row_width c) (outputs_of c.kind)) p 0
 -- the taint of output p of a combinational cell, exact or coarse, for operand words vs with taints ts
 abbrev pub taint_word : Cell → List Word → List Word → ℕ → Word
 taint_word c vs ts p = word (output_width c p) (λ i. output_taint c p i vs ts)
+
+-- the taint words of all outputs
+abbrev pub taint_words : Cell → List Word → List Word → List Word
+taint_words c vs ts = map (taint_word c vs ts) (range_with_len 0 (length (outputs_of c.kind)))
 
 -- words that the operands of a cell can have
 abbrev pub AreOperands : Cell → List Word → Type 0

@@ -1,5 +1,5 @@
 -- Formulas: terms as contracts see them. What they stand for, how wide they are, and what they cost.
-use Rattle.std.specs.Prelude.{ℕ, ◌+◌, ◌/◌, ◌==◌, ◌≡◌, ◌≤◌, nat_le, nat_lt, max, Bool, true, false, not, ◌&&◌, List, ◌∷◌, ◌++◌, map, length, slice_get, Option, Some, None, option_and_then, if◌then◌else◌, unwrap_or}
+use Rattle.std.specs.Prelude.{ℕ, ◌+◌, ◌/◌, ◌==◌, ◌≡◌, ◌≤◌, nat_le, nat_lt, max, Bool, true, false, not, ◌&&◌, List, [], ◌∷◌, ◌++◌, map, length, slice_get, Option, Some, None, option_and_then, if◌then◌else◌, unwrap_or}
 use Rattle.std.specs.List.{list_all}
 use Rattle.cif_defs.specs.Words.{Word, bit, operand}
 use Rattle.cif_defs.specs.Meanings.{not_word, reduce_and_word, reduce_or_word, reduce_xor_word, and_word, or_word, xor_word, add_word, mul_word, div_word, lt_word, eq_word}
@@ -61,6 +61,10 @@ value_of (One op f) vs ts named = one_word op (value_of f vs ts named)
 value_of (Two op f g) vs ts named = two_word op (value_of f vs ts named) (value_of g vs ts named)
 value_of (Choose s f g) vs ts named = if bit (value_of s vs ts named) 0 then value_of g vs ts named else value_of f vs ts named
 value_of (Let f g) vs ts named = value_of g vs ts (value_of f vs ts named ∷ named)
+
+-- the values of formulas, one by one
+abbrev pub values_of : List Formula → List Word → List Word → List Word
+values_of fs vs ts = map (λ f. value_of f vs ts []) fs
 
 -- ---- the width of a formula, which is none where it isn't well formed
 

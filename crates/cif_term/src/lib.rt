@@ -17,5 +17,5 @@ mod tests;
 mod width;
 
 pub use ops::{Op1, Op2};
-pub use shadow::Shadow;
+pub use shadow::{Shadow, all_terms};
 pub use term::{Places, Term};

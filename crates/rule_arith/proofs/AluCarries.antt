@@ -13,7 +13,7 @@ use Rattle.cif_defs.proofs.SumExact.{operand_bit}
 use Rattle.cif_defs.proofs.Sums.{carry, carry_local, ripple, self_completes}
 use Rattle.cif_defs.proofs.WordNumbers.{number_below}
 use Rattle.rule_arith.specs.Bounds.{is_upper, sign_start}
-use Rattle.rule_arith.proofs.Addends.{carry_grows, le_both, le_word}
+use Rattle.rule_arith.proofs.AddendSums.{carry_grows, le_both, le_word}
 use Rattle.rule_arith.proofs.Limits.{at_bound, greatest, least, limit, limit_bounds, limit_completes}
 use Rattle.rule_arith.proofs.SumRules.{xor_none}
 use Rattle.rule_arith.proofs.Turns.{IsSpread}

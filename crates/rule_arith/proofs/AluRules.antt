@@ -8,7 +8,7 @@ use Rattle.cif_defs.proofs.WordLaws.{bit-word, length-word}
 use Rattle.cif_defs.proofs.Exact.{extended_filled, extended_same, filled, filled_completes, true_by}
 use Rattle.cif_defs.proofs.SumExact.{alu_is_sum, operand_bit}
 use Rattle.cif_defs.proofs.Sums.{self_completes, sum_bit}
-use Rattle.rule_arith.proofs.Addends.{IsCarry, IsSumOf, operand_addend, sum_spread}
+use Rattle.rule_arith.proofs.AddendSums.{IsCarry, IsSumOf, operand_addend, sum_spread}
 use Rattle.rule_arith.proofs.Limits.{at_bound, at_bound_tainted, bit-limit, bound_word, greatest, least, limit, limit_completes}
 use Rattle.rule_arith.proofs.SumRules.{has_sides, stands_single, xor_none}
 use Rattle.rule_arith.proofs.Turns.{or_off, or_on, xor_cancel}

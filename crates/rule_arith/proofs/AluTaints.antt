@@ -18,8 +18,8 @@ use Rattle.cif_term.specs.CellTaints.{AreTaintsOf, IsTaintOf, output_width}
 use Rattle.cif_term.specs.Formulas.{Bound, Const, Formula, IsFormed, Two, value_of}
 use Rattle.cif_term.specs.declared.ops.Op1.TheVariants.{Not}
 use Rattle.cif_term.specs.declared.ops.Op2.TheVariants.{Add, And, Or, Xor}
-use Rattle.cif_term.proofs.CellTaints.{exact_taint}
-use Rattle.cif_term.proofs.Forms.{formed_bound, formed_extended, formed_join, formed_let, formed_taint, formed_value, raised}
+use Rattle.cif_term.proofs.ExactTaintWords.{exact_taint}
+use Rattle.cif_term.proofs.FormedFormulas.{formed_bound, formed_extended, formed_join, formed_let, formed_taint, formed_value, raised}
 use Rattle.rule_arith.specs.declared.sums.Sums.{Sums}
 use Rattle.rule_arith.specs.Addends.{bit_bound, operand_word, repeated}
 use Rattle.rule_arith.specs.AluFormulas.{alu_carry_taint, alu_named, alu_sum_taint, alu_sums, alu_xor_taint, carries_at}

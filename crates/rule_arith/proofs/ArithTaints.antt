@@ -1,9 +1,7 @@
 -- The formulas of a covered cell are the taint of its outputs.
-use Rattle.std.specs.Prelude.{ℕ, ◌+◌, ◌<◌, ◌≤◌, ◌≡◌, true, List, [], ◌∷◌, ◌++◌, map, length, get_or, refl}
+use Rattle.std.specs.Prelude.{ℕ, ◌<◌, ◌≤◌, ◌≡◌, true, List, map, length, refl}
 use Rattle.std.specs.List.{range_with_len}
-use Rattle.std.proofs.Common.{arith, sym, ap, subst, ◌∙◌}
-use Rattle.std.proofs.lemmas.List.{map_push}
-use Rattle.std.proofs.lemmas.List.FromFn.{get_or-map-range_with_len, length-map-range_with_len, map-range_with_len_more}
+use Rattle.std.proofs.Common.{arith, sym, subst}
 use Rattle.cif_defs.specs.Cells.{Cell, number_of}
 use Rattle.cif_defs.specs.Fitted.{IsFitted}
 use Rattle.cif_defs.specs.Table.{outputs_of}
@@ -11,9 +9,10 @@ use Rattle.cif_defs.specs.declared.kinds.Kind.{Kind}
 use Rattle.cif_defs.specs.declared.kinds.Kind.TheVariants.{Neg, Add, Sub, Eq, Ne, Eqx, Nex, Lt, Le, Ge, Gt, Alu}
 use Rattle.cif_defs.specs.declared.kinds.Param.TheVariants.{AWidth, BWidth, YWidth}
 use Rattle.cif_term.specs.CellTaints.{AreTaintsOf, IsTaintOf}
-use Rattle.cif_term.specs.Formulas.{Const}
+use Rattle.cif_term.specs.Formulas.{Formula}
 use Rattle.cif_term.specs.TermView.{formula_of}
 use Rattle.cif_term.specs.declared.term.Term.{Term}
+use Rattle.cif_term.proofs.OutputTerms.{term_is_taint}
 use Rattle.rule_arith.specs.ArithFormulas.{arith_formula, covers_arith, formula_by, formulas_by, is_pair}
 use Rattle.rule_arith.proofs.AluTaints.{alu_cell, alu_taints}
 use Rattle.rule_arith.proofs.BinaryCells.{IsBinary}
@@ -88,41 +87,11 @@ arith_taints c h f = taints_by c.kind c refl h f
 
 -- ---- output by output
 
-pub few_outputs : (k : Kind) → covers_arith k ≡ true → length (outputs_of k) ≤ 3
-unfolding outputs_of
-few_outputs Alu h = omega arith
-few_outputs Add h = omega arith
-few_outputs Sub h = omega arith
-few_outputs Neg h = omega arith
-few_outputs Lt h = omega arith
-few_outputs Le h = omega arith
-few_outputs Ge h = omega arith
-few_outputs Gt h = omega arith
-few_outputs Eq h = omega arith
-few_outputs Ne h = omega arith
-few_outputs Eqx h = omega arith
-few_outputs Nex h = omega arith
-few_outputs _ h = absurd (cc)
+pub arith_term_is : (c d : Cell) (p : ℕ) (t : Term) → c ≡ d → covers_arith c.kind ≡ true → IsFitted c → p < length (outputs_of d.kind) → formula_of t ≡ arith_formula c p → IsTaintOf d p (formula_of t)
+arith_term_is c d p t e h f l g = term_is_taint c d (arith_formula c) p t e (arith_taints c h f) l g
 
-formula_at : (c : Cell) (p : ℕ) → p < length (outputs_of c.kind) → get_or (formulas_by c.kind c) p (Const []) ≡ arith_formula c p
-formula_at c p h = get_or-map-range_with_len (arith_formula c) 0 (length (outputs_of c.kind)) p p (Const []) h (omega arith)
-
-taint_at : (c : Cell) (p : ℕ) → covers_arith c.kind ≡ true → IsFitted c → p < length (outputs_of c.kind) → IsTaintOf c p (arith_formula c p)
-taint_at c p h f l =
-    let all : AreTaintsOf c (formulas_by c.kind c) = arith_taints c h f in
-    let long : length (formulas_by c.kind c) ≡ length (outputs_of c.kind) = length-map-range_with_len (arith_formula c) 0 (length (outputs_of c.kind)) in
-    subst (λ g. IsTaintOf c p g) (formula_at c p l) (all.each p (omega arith))
-
-pub term_is : (c d : Cell) (p : ℕ) (t : Term) → c ≡ d → covers_arith c.kind ≡ true → IsFitted c → p < length (outputs_of d.kind) → formula_of t ≡ arith_formula c p → IsTaintOf d p (formula_of t)
-term_is c d p t e h f l g =
-    let inside : p < length (outputs_of c.kind) = (let q : length (outputs_of c.kind) ≡ length (outputs_of d.kind) = ap (λ (x : Cell). length (outputs_of x.kind)) e in omega arith) in
-    subst (λ x. IsTaintOf x p (formula_of t)) e (subst (λ x. IsTaintOf c p x) (sym g) (taint_at c p h f inside))
-
--- one more term
-pub term_push : (c : Cell) (i : ℕ) (ts us : List Term) (t : Term) → map formula_of ts ≡ map (arith_formula c) (range_with_len 0 i) → us ≡ ts ++ t ∷ [] → formula_of t ≡ arith_formula c i → map formula_of us ≡ map (arith_formula c) (range_with_len 0 (i + 1))
-term_push c i ts us t e f g =
-    ap (map formula_of) f ∙ map_push formula_of ts t ∙ ap (λ l. l ++ formula_of t ∷ []) e ∙ ap (λ x. map (arith_formula c) (range_with_len 0 i) ++ x ∷ []) g
-    ∙ sym (map-range_with_len_more (arith_formula c) 0 i i (omega arith))
-
-pub terms_are : (c : Cell) (n : ℕ) (ts : List Term) → covers_arith c.kind ≡ true → IsFitted c → map formula_of ts ≡ map (arith_formula c) (range_with_len 0 n) → n ≡ length (outputs_of c.kind) → AreTaintsOf c (map formula_of ts)
-terms_are c n ts h f e l = subst (λ fs. AreTaintsOf c fs) (sym (e ∙ ap (λ k. map (arith_formula c) (range_with_len 0 k)) l)) (arith_taints c h f)
+-- d is the cell by another name
+pub arith_terms_are : (c d : Cell) (fs : List Formula) → d ≡ c → covers_arith c.kind ≡ true → IsFitted c → fs ≡ map (arith_formula d) (range_with_len 0 (length (outputs_of d.kind))) → AreTaintsOf c fs
+arith_terms_are c d fs q h f e =
+    let own : fs ≡ map (arith_formula c) (range_with_len 0 (length (outputs_of c.kind))) = subst (λ (x : Cell). fs ≡ map (arith_formula x) (range_with_len 0 (length (outputs_of x.kind)))) q e in
+    subst (λ (gs : List Formula). AreTaintsOf c gs) (sym own) (arith_taints c h f)

@@ -14,7 +14,7 @@ use Rattle.cif_defs.specs.declared.kinds.Kind.TheVariants.{Mem}
 use Rattle.cif_defs.specs.declared.kinds.Param.TheVariants.{AWidth, BWidth, YWidth}
 use Rattle.cif_term.specs.CellTaints.{IsTaintOf, output_width}
 use Rattle.cif_term.specs.Formulas.{Formula, IsFormed, value_of}
-use Rattle.cif_term.proofs.CellTaints.{exact_taint}
+use Rattle.cif_term.proofs.ExactTaintWords.{exact_taint}
 use Rattle.rule_arith.specs.SumFormulas.{of_pair}
 
 -- a cell with operands A and B and output Y, all of at most limit bits

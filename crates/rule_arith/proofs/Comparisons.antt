@@ -11,7 +11,7 @@ use Rattle.cif_defs.proofs.WordNumbers.{compared-numbers, compared_le}
 use Rattle.rule_arith.specs.Bounds.{order_start}
 use Rattle.rule_arith.proofs.Limits.{limit_completes}
 use Rattle.rule_arith.proofs.OrderLimits.{greatest_number, greatest_word, least_number, least_word}
-use Rattle.rule_arith.proofs.Pairs.{Decides, IsOfTwo, flag_exact, of_both, of_exchanged}
+use Rattle.rule_arith.proofs.TwoWordFunctions.{Decides, IsOfTwo, flag_exact, of_both, of_exchanged}
 use Rattle.rule_arith.proofs.SumRules.{not_xor, xor_none}
 use Rattle.rule_arith.proofs.Turns.{xor_off, xor_on}
 

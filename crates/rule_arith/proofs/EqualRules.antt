@@ -13,10 +13,10 @@ use Rattle.cif_defs.proofs.Exact.{and_both, differ_cases, ext_in, true_by}
 use Rattle.cif_defs.proofs.Numbers.{Le, word-same}
 use Rattle.rule_arith.specs.Bounds.{sign_start}
 use Rattle.rule_arith.proofs.Limits.{at_bound, below_side, lies_between, sign_of}
-use Rattle.rule_arith.proofs.Pairs.{Decides, IsOfTwo, flag_exact, of_both}
+use Rattle.rule_arith.proofs.TwoWordFunctions.{Decides, IsOfTwo, flag_exact, of_both}
 use Rattle.rule_arith.proofs.SumRules.{not_xor, xor_none}
 use Rattle.rule_arith.proofs.Turns.{or_off, or_on}
-use Rattle.rule_arith.proofs.Cuts.{LiesWithin, clash, cut_completes, cut_extended, equal_rule, in_case, meet, side_bit}
+use Rattle.rule_arith.proofs.BoundCompletions.{LiesWithin, clash, cut_completes, cut_extended, equal_rule, in_case, meet, side_bit}
 use Rattle.rule_arith.proofs.SameWords.{all_clear, extended_same_back, same_extended, some_one}
 
 -- ---- bounds that meet share a word

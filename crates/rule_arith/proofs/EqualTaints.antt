@@ -14,8 +14,8 @@ use Rattle.cif_term.specs.CellTaints.{AreTaintsOf}
 use Rattle.cif_term.specs.Formulas.{Bound, Formula, IsFormed, One, Taint, Two, value_of}
 use Rattle.cif_term.specs.declared.ops.Op1.TheVariants.{Not, ReduceOr}
 use Rattle.cif_term.specs.declared.ops.Op2.TheVariants.{And, Or}
-use Rattle.cif_term.proofs.CellTaints.{one_output}
-use Rattle.cif_term.proofs.Forms.{formed_bound, formed_extended, formed_let, formed_taint, raised}
+use Rattle.cif_term.proofs.ExactTaintWords.{one_output}
+use Rattle.cif_term.proofs.FormedFormulas.{formed_bound, formed_extended, formed_let, formed_taint, raised}
 use Rattle.cif_term.proofs.Values.{value-and, value-not, value-or}
 use Rattle.rule_arith.specs.Addends.{operand_taint, operand_word}
 use Rattle.rule_arith.specs.Bounds.{bounds, half_of, sign_start}
@@ -23,7 +23,7 @@ use Rattle.rule_arith.specs.EqualFormulas.{either_case, equal_bit, equal_taint, 
 use Rattle.rule_arith.specs.SumFormulas.{of_pair}
 use Rattle.rule_arith.proofs.BinaryCells.{IsBinary, RowIsExact, binary_cell, pair_taint}
 use Rattle.rule_arith.proofs.BoundValues.{value-bound, value-bounds}
-use Rattle.rule_arith.proofs.Cuts.{clash, equal_rule, in_case, meet, side_bit}
+use Rattle.rule_arith.proofs.BoundCompletions.{clash, equal_rule, in_case, meet, side_bit}
 use Rattle.rule_arith.proofs.EqualRules.{eq_exact, ne_exact}
 use Rattle.rule_arith.proofs.Forming.{formed_bounds, formed_half, one_more, two_more}
 use Rattle.rule_arith.proofs.OrderTaints.{value-flag}

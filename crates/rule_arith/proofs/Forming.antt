@@ -11,7 +11,7 @@ use Rattle.cif_term.specs.declared.ops.Op1.TheVariants.{Not, ReduceAnd, ReduceOr
 use Rattle.cif_term.specs.declared.ops.Op2.{Op2}
 use Rattle.cif_term.specs.declared.ops.Op2.TheVariants.{And, Or, Xor, Add, Mul, Div, LessUnsigned, LessSigned, Equal}
 use Rattle.cif_term.specs.Formulas.{Formula, One, Two, IsFormed, is_on_numbers, joined_pieces, one_cost, one_width, pieces, two_cost, two_width}
-use Rattle.cif_term.proofs.Forms.{formed_bound, formed_const, formed_join, formed_let, formed_one, formed_pick, formed_two, pieces_narrow, raised}
+use Rattle.cif_term.proofs.FormedFormulas.{formed_bound, formed_const, formed_join, formed_let, formed_one, formed_pick, formed_two, pieces_narrow, raised}
 use Rattle.rule_arith.specs.Bounds.{bounds, half_of, half_places, is_upper, taint_below}
 use Rattle.rule_arith.specs.Cases.{case_taint, cases_taint, joined, second_taint}
 use Rattle.rule_arith.specs.SumFormulas.{sum_at, sum_formula}

@@ -1,6 +1,6 @@
 pub mod Turns
 pub mod Limits
-pub mod Addends
+pub mod AddendSums
 pub mod SumRules
 pub mod BoundValues
 pub mod SumValues
@@ -8,7 +8,7 @@ pub mod Forming
 pub mod BinaryCells
 pub mod SumTaints
 pub mod OrderLimits
-pub mod Pairs
+pub mod TwoWordFunctions
 pub mod Comparisons
 pub mod OrderTaints
 pub mod OwnTaints
@@ -18,8 +18,7 @@ pub mod AluCarries
 pub mod AluValues
 pub mod AluTaints
 pub mod SameWords
-pub mod Cuts
+pub mod BoundCompletions
 pub mod EqualRules
 pub mod EqualTaints
 pub mod ArithTaints
-pub mod SingleBits

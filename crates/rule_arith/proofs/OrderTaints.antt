@@ -18,8 +18,8 @@ use Rattle.cif_term.specs.CellTaints.{AreTaintsOf}
 use Rattle.cif_term.specs.Extended.{extended}
 use Rattle.cif_term.specs.Formulas.{Bound, Formula, IsFormed, Two, value_of}
 use Rattle.cif_term.specs.declared.ops.Op2.TheVariants.{LessSigned, LessUnsigned, Xor}
-use Rattle.cif_term.proofs.CellTaints.{one_output}
-use Rattle.cif_term.proofs.Forms.{formed_bound, formed_extended, formed_let, raised}
+use Rattle.cif_term.proofs.ExactTaintWords.{one_output}
+use Rattle.cif_term.proofs.FormedFormulas.{formed_bound, formed_extended, formed_let, raised}
 use Rattle.cif_term.proofs.Values.{value-extended, value-xor}
 use Rattle.rule_arith.specs.Bounds.{bounds, greatest_of, half_of, least_of, order_start}
 use Rattle.rule_arith.specs.OrderFormulas.{greater_taint, less_bit, less_op, less_taint}

@@ -18,8 +18,8 @@ use Rattle.cif_term.specs.CellTaints.{AreTaintsOf, IsTaintOf, output_width}
 use Rattle.cif_term.specs.Extended.{extended}
 use Rattle.cif_term.specs.Formulas.{Const, IsFormed, One, value_of}
 use Rattle.cif_term.specs.declared.ops.Op1.TheVariants.{Not}
-use Rattle.cif_term.proofs.CellTaints.{exact_taint, one_output}
-use Rattle.cif_term.proofs.Forms.{formed_const, formed_extended}
+use Rattle.cif_term.proofs.ExactTaintWords.{exact_taint, one_output}
+use Rattle.cif_term.proofs.FormedFormulas.{formed_const, formed_extended}
 use Rattle.rule_arith.specs.Addends.{operand_taint, operand_word}
 use Rattle.rule_arith.specs.Bounds.{sign_start}
 use Rattle.rule_arith.specs.SumFormulas.{neg_taint, of_own}

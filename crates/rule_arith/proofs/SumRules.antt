@@ -12,7 +12,7 @@ use Rattle.cif_defs.proofs.Numbers.{int_word_of-difference, number_zero, word-sa
 use Rattle.cif_defs.proofs.SumExact.{add_is_sum, operand_bit, sub_is_sum}
 use Rattle.cif_defs.proofs.Sums.{bit-ripple, carry, self_completes, sum_bit, word_of-sum}
 use Rattle.rule_arith.specs.Bounds.{is_upper, sign_start}
-use Rattle.rule_arith.proofs.Addends.{IsSumOf, constant_addend, constant_carry, operand_addend, sum_spread}
+use Rattle.rule_arith.proofs.AddendSums.{IsSumOf, constant_addend, constant_carry, operand_addend, sum_spread}
 use Rattle.rule_arith.proofs.Limits.{at_bound, at_bound_clear, bound_word}
 use Rattle.rule_arith.proofs.Turns.{cases_turn, spread_exact}
 

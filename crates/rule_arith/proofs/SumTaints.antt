@@ -15,8 +15,8 @@ use Rattle.cif_term.specs.CellTaints.{AreTaintsOf}
 use Rattle.cif_term.specs.Extended.{extended}
 use Rattle.cif_term.specs.Formulas.{Formula, IsFormed, One, Taint, Value, value_of}
 use Rattle.cif_term.specs.declared.ops.Op1.TheVariants.{Not}
-use Rattle.cif_term.proofs.CellTaints.{one_output}
-use Rattle.cif_term.proofs.Forms.{formed_extended, formed_taint, formed_value, raised}
+use Rattle.cif_term.proofs.ExactTaintWords.{one_output}
+use Rattle.cif_term.proofs.FormedFormulas.{formed_extended, formed_taint, formed_value, raised}
 use Rattle.cif_term.proofs.Values.{value-extended, value-not}
 use Rattle.rule_arith.specs.Bounds.{sign_start}
 use Rattle.rule_arith.specs.Addends.{operand_taint, operand_word}

@@ -6,4 +6,3 @@ pub mod OrderFormulas
 pub mod AluFormulas
 pub mod EqualFormulas
 pub mod ArithFormulas
-pub mod SingleBits

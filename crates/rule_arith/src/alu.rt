@@ -7,14 +7,14 @@ ghost use Rattle.rule_arith.specs.Bounds.{half_of, sign_start};
 ghost use Rattle.cif_term.specs.Formulas.{Bound, Two};
 
 use crate::bounds::{bounds_of, take_below, take_half};
-use crate::operands::{Addend, Pair, bound_of_bit, repeat};
+use crate::operands::{Addend, OperandPair, bound_of_bit, repeat};
 use crate::sums::{Sums, join};
 use cif_bits::NoMemory;
 use cif_term::{Op1, Op2, Term};
 use std::alloc::Global;
 
 /// The taint of X, the exclusive or of A and B, which BI complements.
-pub fn xor_term(alloc: Global, width: u32, pair: &Pair) -> Result<Term, NoMemory>
+pub fn xor_term(alloc: Global, width: u32, pair: &OperandPair) -> Result<Term, NoMemory>
     requires { width ≤ 65536 }
     ensures { IfOk result
         (λ t. formula_of t ≡ alu_xor_taint width pair.now.signed pair.now.first_bits pair.now.second_bits) }
@@ -37,7 +37,7 @@ fn carry_in(alloc: Global, width: u32) -> Result<Term, NoMemory>
 }
 
 /// `body`, inside which the bounds of A, of the carry in, and of B where BI is least and where it is greatest have names.
-fn name_all(alloc: Global, width: u32, pair: &Pair, body: Term) -> Result<Term, NoMemory>
+fn name_all(alloc: Global, width: u32, pair: &OperandPair, body: Term) -> Result<Term, NoMemory>
     requires { width ≤ 65536 }
     ensures { IfOk result (λ t. formula_of t
         ≡ alu_named width pair.now.signed pair.now.first_bits pair.now.second_bits (formula_of body)) }
@@ -66,7 +66,7 @@ fn sums_where(width: u32, first_start: u32, second_start: u32, inverted: bool) -
 }
 
 /// The taint of Y, the sum.
-pub fn sum_output(alloc: Global, width: u32, pair: &Pair) -> Result<Term, NoMemory>
+pub fn sum_output(alloc: Global, width: u32, pair: &OperandPair) -> Result<Term, NoMemory>
     requires { width ≤ 65536 }
     ensures { IfOk result
         (λ t. formula_of t ≡ alu_sum_taint width pair.now.signed pair.now.first_bits pair.now.second_bits) }
@@ -115,7 +115,7 @@ fn carries(alloc: Global, sums: &Sums, upper: bool) -> Result<Term, NoMemory>
 }
 
 /// The taint of CO, the carries out.
-pub fn carry_output(alloc: Global, width: u32, pair: &Pair) -> Result<Term, NoMemory>
+pub fn carry_output(alloc: Global, width: u32, pair: &OperandPair) -> Result<Term, NoMemory>
     requires { width ≤ 65536 }
     ensures { IfOk result
         (λ t. formula_of t ≡ alu_carry_taint width pair.now.signed pair.now.first_bits pair.now.second_bits) }

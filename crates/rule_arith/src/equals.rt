@@ -6,7 +6,7 @@ ghost use Rattle.rule_arith.specs.Bounds.{half_of};
 ghost use Rattle.rule_arith.specs.EqualFormulas.{either_case, equal_bit, equal_taint, meets, meets_at};
 
 use crate::bounds::{name_bounds, take_half};
-use crate::operands::{Addend, Pair};
+use crate::operands::{Addend, OperandPair};
 use cif_bits::NoMemory;
 use cif_term::{Op1, Op2, Term};
 use std::alloc::Global;
@@ -108,7 +108,7 @@ impl Both {
 }
 
 /// Whether it depends on tainted bits that both operands are the same.
-fn equal(alloc: Global, width: u32, pair: &Pair) -> Result<Term, NoMemory>
+fn equal(alloc: Global, width: u32, pair: &OperandPair) -> Result<Term, NoMemory>
     requires { width ≤ 65536 }
     ensures { IfOk result
         (λ t. formula_of t ≡ equal_bit width pair.now.signed pair.now.first_bits pair.now.second_bits) }
@@ -134,7 +134,7 @@ fn equal(alloc: Global, width: u32, pair: &Pair) -> Result<Term, NoMemory>
 }
 
 /// The taint of `$eq`, `$ne`, `$eqx` and `$nex`.
-pub fn equal_term(alloc: Global, width: u32, pair: &Pair) -> Result<Term, NoMemory>
+pub fn equal_term(alloc: Global, width: u32, pair: &OperandPair) -> Result<Term, NoMemory>
     requires limit { width ≤ 65536 }
     requires first { pair.now.first_bits ≤ 65536 }
     requires second { pair.now.second_bits ≤ 65536 }

@@ -13,8 +13,6 @@ mod operands;
 mod orders;
 mod shadow;
 mod sums;
-#[cfg(test)]
-mod tests;
 
 ghost use Rattle.std.specs.Prelude.{◌≡◌, true, map, IfOk};
 ghost use Rattle.cif_defs.specs.Fitted.{IsFitted};
@@ -23,9 +21,9 @@ ghost use Rattle.cif_term.specs.TermView.{formula_of};
 ghost use Rattle.rule_arith.specs.ArithFormulas.{covers_arith};
 
 use cif_bits::NoMemory;
-use cif_cells::Cell;
 use cif_defs::Kind;
-use cif_term::Term;
+use cif_kinds::Cell;
+use cif_term::{Term, all_terms};
 pub use shadow::ArithShadow;
 use std::alloc::Global;
 
@@ -57,5 +55,5 @@ pub fn taint_terms(alloc: Global, cell: &Cell) -> Result<Vec<Term>, NoMemory>
     requires fitted { IsFitted cell.now }
     ensures { IfOk result (λ ts. AreTaintsOf cell.now (map formula_of ts.items)) }
 {
-    Ok(shadow::all_terms(alloc, cell)?)
+    Ok(all_terms(alloc, &ArithShadow::of(cell))?)
 }

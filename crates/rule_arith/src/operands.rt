@@ -61,13 +61,13 @@ impl Operand {
 
 /// The operands A and B of a cell: how many bits each has, and whether both are signed.
 #[derive(Clone, Copy)]
-pub struct Pair {
+pub struct OperandPair {
     pub signed: bool,
     pub first_bits: u32,
     pub second_bits: u32,
 }
 
-impl Pair {
+impl OperandPair {
     /// A.
     pub fn first(&self) -> Operand
         ensures { result ≡ first_operand self.now.signed self.now.first_bits }

@@ -6,7 +6,7 @@ ghost use Rattle.rule_arith.specs.Bounds.{greatest_of, least_of, order_start};
 ghost use Rattle.rule_arith.specs.OrderFormulas.{greater_taint, less_bit, less_op, less_taint};
 
 use crate::bounds::{name_bounds, take_half};
-use crate::operands::{Addend, Operand, Pair};
+use crate::operands::{Addend, Operand, OperandPair};
 use cif_bits::NoMemory;
 use cif_term::{Op2, Term};
 use std::alloc::Global;
@@ -73,7 +73,7 @@ fn less(alloc: Global, width: u32, first: &Operand, second: &Operand) -> Result<
 }
 
 /// The taint of `$lt` and `$ge`.
-pub fn less_term(alloc: Global, width: u32, pair: &Pair) -> Result<Term, NoMemory>
+pub fn less_term(alloc: Global, width: u32, pair: &OperandPair) -> Result<Term, NoMemory>
     requires limit { width ≤ 65536 }
     requires first { pair.now.first_bits ≤ 65536 }
     requires second { pair.now.second_bits ≤ 65536 }
@@ -85,7 +85,7 @@ pub fn less_term(alloc: Global, width: u32, pair: &Pair) -> Result<Term, NoMemor
 }
 
 /// The taint of `$gt` and `$le`.
-pub fn greater_term(alloc: Global, width: u32, pair: &Pair) -> Result<Term, NoMemory>
+pub fn greater_term(alloc: Global, width: u32, pair: &OperandPair) -> Result<Term, NoMemory>
     requires limit { width ≤ 65536 }
     requires first { pair.now.first_bits ≤ 65536 }
     requires second { pair.now.second_bits ≤ 65536 }

@@ -5,18 +5,18 @@ ghost use Rattle.cif_defs.specs.Cells.{a_signed, both_signed, number_of, y_width
 ghost use Rattle.cif_defs.specs.Fitted.{IsFitted, operand_widths};
 ghost use Rattle.cif_defs.specs.Table.{outputs_of};
 ghost use Rattle.cif_term.specs.Formulas.{value_of, width_of};
-ghost use Rattle.cif_term.specs.CellTaints.{AreTaintsOf, taint_word};
+ghost use Rattle.cif_term.specs.CellTaints.{taint_word};
 ghost use Rattle.cif_term.specs.TermView.{formula_of};
 ghost use Rattle.rule_arith.specs.ArithFormulas.{alu_formula, arith_formula, covers_arith, is_pair};
 ghost use Rattle.rule_arith.specs.SumFormulas.{neg_taint, of_own};
 
 use crate::alu::{carry_output, sum_output, xor_term};
 use crate::equals::equal_term;
-use crate::operands::Pair;
+use crate::operands::OperandPair;
 use crate::orders::{greater_term, less_term};
 use crate::sums::{add_term, neg_term, sub_term};
 use cif_bits::NoMemory;
-use cif_cells::{Cell, Kind, Param, table};
+use cif_kinds::{Cell, Kind, Param, table};
 use cif_term::{Shadow, Term};
 use std::alloc::Global;
 use std::marker::Model;
@@ -29,7 +29,7 @@ fn are_signed(cell: &Cell) -> bool
 }
 
 /// The operands A and B of a cell.
-fn pair_of(cell: &Cell) -> Pair
+fn pair_of(cell: &Cell) -> OperandPair
     requires pair { is_pair cell.now.kind ≡ true }
     requires fitted { IsFitted cell.now }
     ensures signed { result.signed ≡ both_signed cell.now }
@@ -38,7 +38,7 @@ fn pair_of(cell: &Cell) -> Pair
     ensures first_limit { result.first_bits ≤ 65536 }
     ensures second_limit { result.second_bits ≤ 65536 }
 {
-    Pair {
+    OperandPair {
         signed: are_signed(cell),
         first_bits: cell.number(Param::AWidth) as u32,
         second_bits: cell.number(Param::BWidth) as u32,
@@ -97,13 +97,14 @@ fn pair_term(alloc: Global, cell: &Cell, output: u32) -> Result<Term, NoMemory>
         Kind::Lt | Kind::Ge => Ok(less_term(alloc, width, &pair)?),
         Kind::Gt | Kind::Le => Ok(greater_term(alloc, width, &pair)?),
         Kind::Alu => Ok(alu_term(alloc, cell, output)?),
-        _ => Ok(equal_term(alloc, width, &pair)?),
+        Kind::Eq | Kind::Ne | Kind::Eqx | Kind::Nex => Ok(equal_term(alloc, width, &pair)?),
+        _ => unreachable!(),
     }
 }
 
 /// The term of the taint of an output.
 #[tactic(auto, unfolding(crate::specs::ArithFormulas::formula_by))]
-pub fn arith_term(alloc: Global, cell: &Cell, output: u32) -> Result<Term, NoMemory>
+fn arith_term(alloc: Global, cell: &Cell, output: u32) -> Result<Term, NoMemory>
     requires covered { covers_arith cell.now.kind ≡ true }
     requires fitted { IsFitted cell.now }
     ensures { IfOk result (λ t. formula_of t ≡ arith_formula cell.now output) }
@@ -112,21 +113,6 @@ pub fn arith_term(alloc: Global, cell: &Cell, output: u32) -> Result<Term, NoMem
         Kind::Neg => Ok(own_term(alloc, cell)?),
         _ => Ok(pair_term(alloc, cell, output)?),
     }
-}
-
-/// The terms of all outputs, in the order of the table of kinds.
-pub fn all_terms(alloc: Global, cell: &Cell) -> Result<Vec<Term>, NoMemory>
-    requires covered { covers_arith cell.now.kind ≡ true }
-    requires fitted { IsFitted cell.now }
-    ensures { IfOk result (λ ts. AreTaintsOf cell.now (map formula_of ts.items)) }
-{
-    let count = table::outputs(cell.kind()).len() as u32;
-    let mut terms = Vec::with_capacity(alloc, count as usize)?;
-    for output in 0..count {
-        let term = arith_term(alloc, cell, output)?;
-        terms.push(term)?;
-    }
-    Ok(terms)
 }
 
 /// The shadow logic of a cell that is a sum, a comparison or an equality: a term for each output.
@@ -163,6 +149,8 @@ impl<'a> Shadow for ArithShadow<'a> {
     ghost widths = { operand_widths };
 
     ghost count = { λ c. length (outputs_of c.kind) };
+
+    ghost formula = { arith_formula };
 
     ghost meant = { taint_word };
 

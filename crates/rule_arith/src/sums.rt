@@ -5,7 +5,7 @@ ghost use Rattle.rule_arith.specs.Cases.{case_taint, joined, second_taint};
 ghost use Rattle.rule_arith.specs.SumFormulas.{add_taint, neg_taint, sub_taint, sum_at, sum_taint, sums_taint};
 
 use crate::bounds::{name_bounds, take_below, take_half};
-use crate::operands::{Addend, Operand, Pair};
+use crate::operands::{Addend, Operand, OperandPair};
 use cif_bits::NoMemory;
 use cif_term::{Op2, Term};
 use std::alloc::Global;
@@ -155,7 +155,7 @@ pub fn sum_term(
 }
 
 /// The taint of `$add`.
-pub fn add_term(alloc: Global, width: u32, pair: &Pair) -> Result<Term, NoMemory>
+pub fn add_term(alloc: Global, width: u32, pair: &OperandPair) -> Result<Term, NoMemory>
     requires { width ≤ 65536 }
     ensures { IfOk result
         (λ t. formula_of t ≡ add_taint width pair.now.signed pair.now.first_bits pair.now.second_bits) }
@@ -166,7 +166,7 @@ pub fn add_term(alloc: Global, width: u32, pair: &Pair) -> Result<Term, NoMemory
 }
 
 /// The taint of `$sub`.
-pub fn sub_term(alloc: Global, width: u32, pair: &Pair) -> Result<Term, NoMemory>
+pub fn sub_term(alloc: Global, width: u32, pair: &OperandPair) -> Result<Term, NoMemory>
     requires { width ≤ 65536 }
     ensures { IfOk result
         (λ t. formula_of t ≡ sub_taint width pair.now.signed pair.now.first_bits pair.now.second_bits) }

@@ -1,4 +1,3 @@
-pub mod Widths
-pub mod Agreeing
-pub mod Terms
-pub mod Operands
+pub mod MeaningWidths
+pub mod ExactRules
+pub mod OperandWords

@@ -1,15 +1,17 @@
 // Rules and enumeration, side by side.
-ghost use Rattle.std.specs.Prelude.{◌≡◌, ◌↔◌, true, List, length, map, IfOk, IsTrue};
+ghost use Rattle.std.specs.Prelude.{◌≡◌, ◌↔◌, true, false, List, length, map, IfOk, IsTrue};
 ghost use Rattle.cif_defs.specs.Words.{Word};
 ghost use Rattle.cif_defs.specs.Cells.{Cell as CellValue};
+ghost use Rattle.cif_defs.specs.Kinds.{is_coarse, role_of};
 ghost use Rattle.cif_defs.specs.Fitted.{IsFitted, operand_widths};
+ghost use Rattle.cif_term.specs.Formulas.{Formula, values_of};
+ghost use Rattle.cif_term.specs.CellTaints.{AreOperands, AreTaintsOf};
 ghost use Rattle.cif_enumerate.specs.ExactWords.{exact_words};
-ghost use Rattle.rule_check.specs.Rules.{has_rule, taint_words};
 
-use crate::rules::taints_by_rule;
 use cif_bits::{Bits, NoMemory};
-use cif_cells::Cell;
 use cif_enumerate::exact_taint;
+use cif_kinds::{Cell, Role};
+use cif_rules::taint_of;
 use std::alloc::Global;
 
 /// Whether two lists hold the same words.
@@ -35,20 +37,26 @@ pub fn agrees(
     values: &[Bits],
     taints: &[Bits],
 ) -> Result<bool, NoMemory>
-    requires covered { has_rule cell.now.kind ≡ true }
+    requires role { role_of cell.now.kind ≡ Role.Combinational }
+    requires exact { is_coarse cell.now.kind ≡ false }
     requires fitted { IsFitted cell.now }
     requires values { map length values.now ≡ operand_widths cell.now }
     requires taints { map length taints.now ≡ operand_widths cell.now }
     ensures { IfOk result (λ agree. agree ≡ true) }
 {
-    let by_rule = taints_by_rule(alloc, cell, values, taints)?;
+    let by_rule = taint_of(alloc, cell, values, taints)?;
     let exact = exact_taint(alloc, cell, values, taints)?;
     Ok(are_same(&by_rule, &exact))
 }
 
-/// A law without a body: what the rule of a cell gives is what trying every completion gives, for all operand words
-/// and all taints of theirs.
+/// Two laws without a body. Formulas that compute the taint of a fitted cell whose taint is exact, as those do for which
+/// the terms of `cif_rules::taint_terms` stand, give for all operand words and all their taints what trying every
+/// completion gives. And each fitted combinational cell has such formulas.
 pub fn rules_are_exact()
-    ensures { (cell : CellValue) (values taints : List Word) → has_rule cell.kind ≡ true
-        → exact_words cell values taints ≡ taint_words cell values taints }
+    ensures exact { (cell : CellValue) (formulas : List Formula) (values taints : List Word)
+        → role_of cell.kind ≡ Role.Combinational → is_coarse cell.kind ≡ false → IsFitted cell
+        → AreTaintsOf cell formulas → AreOperands cell values → AreOperands cell taints
+        → values_of formulas values taints ≡ exact_words cell values taints }
+    ensures given { (cell : CellValue) → role_of cell.kind ≡ Role.Combinational → IsFitted cell
+        → ((formulas : List Formula) × AreTaintsOf cell formulas) }
 {}

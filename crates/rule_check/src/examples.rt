@@ -1,435 +1,612 @@
-// Examples that were worked by hand, each a value and a taint, highest bit first.
+// Examples that were worked by hand.
 
-ghost use Rattle.std.specs.Prelude.{◌≡◌, length, map, IsTrue};
+ghost use Rattle.std.specs.Prelude.{◌≡◌, length, map};
 ghost use Rattle.cif_defs.specs.Fitted.{IsFitted, operand_widths};
 ghost use Rattle.cif_defs.specs.Kinds.{role_of};
 
 use crate::agree::agrees;
-use crate::driver::{are_operands, words_of};
-use crate::modules::{Shape, module_of};
-use crate::rules::{coarse_by_rule, has_rule, taints_by_rule};
-use cif_bits::{Bits, NoMemory};
-use cif_cells::{Cell, Kind, Netlist, Role, meaning, table};
-use std::alloc::{AllocError, Global};
+use crate::modules::{Shape, are_operands, module_of};
+use crate::words::{Marked, Words, read_words};
+use cif_bits::Bits;
+use cif_cells::{Cell, Kind, Netlist, Role, meaning};
+use cif_rules::{covers, is_exact, taint_of};
+use std::alloc::Global;
 use std::process::Abort;
 use std::test::Fail;
 
-/// A word and its taint.
-type Marked<'a> = (&'a str, &'a str);
-
-/// Operand words and their taints.
-#[derive(Drop)]
-struct Operands {
-    values: Vec<Bits>,
-    taints: Vec<Bits>,
+/// What a cell of a shape gives for its outputs, for these operands.
+#[derive(Clone, Copy)]
+struct Example {
+    name: &'static str,
+    kind: Kind,
+    numbers: &'static [u8],
+    operands: &'static [Marked],
+    outputs: &'static [Marked],
 }
 
-/// The word of a text of a few digits.
-fn word(rt: &impl Abort, alloc: Global, text: &str) -> Result<Bits, Fail> {
-    let digits = text.as_bytes();
-    assert!(rt; 0 < digits.len());
-    assert!(rt; digits.len() <= 8);
-    Ok(Bits::from_text(alloc, digits)?)
-}
+const LOGIC: &[Example] = &[
+    Example {
+        name: "and-taint",
+        kind: Kind::And,
+        numbers: &[0, 0, 1, 1, 1],
+        operands: &[("0", "1"), ("0", "0")],
+        outputs: &[("0", "0")],
+    },
+    Example {
+        name: "and-taint",
+        kind: Kind::And,
+        numbers: &[0, 0, 1, 1, 1],
+        operands: &[("0", "1"), ("1", "0")],
+        outputs: &[("0", "1")],
+    },
+    // each reader of a net has a copy of its own, which is completed alone
+    Example {
+        name: "same-net-twice",
+        kind: Kind::Xor,
+        numbers: &[0, 0, 1, 1, 1],
+        operands: &[("0", "1"), ("0", "1")],
+        outputs: &[("0", "1")],
+    },
+    // the other bit is 0 and untainted, and then 1
+    Example {
+        name: "reduce-and",
+        kind: Kind::ReduceAnd,
+        numbers: &[0, 2, 1],
+        operands: &[("01", "01")],
+        outputs: &[("0", "0")],
+    },
+    Example {
+        name: "reduce-and",
+        kind: Kind::ReduceAnd,
+        numbers: &[0, 2, 1],
+        operands: &[("10", "01")],
+        outputs: &[("0", "1")],
+    },
+    Example {
+        name: "logic-and",
+        kind: Kind::LogicAnd,
+        numbers: &[0, 0, 2, 2, 1],
+        operands: &[("01", "01"), ("00", "00")],
+        outputs: &[("0", "0")],
+    },
+    Example {
+        name: "logic-and",
+        kind: Kind::LogicAnd,
+        numbers: &[0, 0, 2, 2, 1],
+        operands: &[("01", "01"), ("10", "00")],
+        outputs: &[("1", "1")],
+    },
+    Example {
+        name: "mux-tainted-select",
+        kind: Kind::Mux,
+        numbers: &[4],
+        operands: &[("1010", "0000"), ("1010", "0000"), ("0", "1")],
+        outputs: &[("1010", "0000")],
+    },
+    Example {
+        name: "mux-tainted-select",
+        kind: Kind::Mux,
+        numbers: &[4],
+        operands: &[("1010", "0000"), ("1011", "0000"), ("0", "1")],
+        outputs: &[("1010", "0001")],
+    },
+    // the words of B are 01 and, above it, 10; the lowest select bit that is 1 chooses
+    Example {
+        name: "pmux",
+        kind: Kind::Pmux,
+        numbers: &[2, 2],
+        operands: &[("00", "00"), ("1001", "0000"), ("11", "00")],
+        outputs: &[("01", "00")],
+    },
+    Example {
+        name: "pmux",
+        kind: Kind::Pmux,
+        numbers: &[2, 2],
+        operands: &[("00", "00"), ("1001", "0000"), ("00", "00")],
+        outputs: &[("00", "00")],
+    },
+    Example {
+        name: "pmux",
+        kind: Kind::Pmux,
+        numbers: &[2, 2],
+        operands: &[("00", "00"), ("1001", "0000"), ("11", "01")],
+        outputs: &[("01", "11")],
+    },
+    // places 1 and 3 hold the same, places 0 and 1 do not
+    Example {
+        name: "bmux",
+        kind: Kind::Bmux,
+        numbers: &[1, 2],
+        operands: &[("1110", "0000"), ("01", "10")],
+        outputs: &[("1", "0")],
+    },
+    Example {
+        name: "bmux",
+        kind: Kind::Bmux,
+        numbers: &[1, 2],
+        operands: &[("1110", "0000"), ("01", "01")],
+        outputs: &[("1", "1")],
+    },
+];
 
-impl Operands {
-    /// The operands of these texts.
-    fn of(rt: &impl Abort, alloc: Global, texts: &[Marked<'_>]) -> Result<Operands, Fail> {
-        let mut values = Vec::new(alloc);
-        let mut taints = Vec::new(alloc);
-        for (value, taint) in texts {
-            values
-                .push(word(rt, alloc, value)?)
-                .map_err(AllocError::from)?;
-            taints
-                .push(word(rt, alloc, taint)?)
-                .map_err(AllocError::from)?;
-        }
-        Ok(Operands { values, taints })
+/// Shifts by known and tainted amounts.
+const SHIFTS: &[Example] = &[
+    // no bit differs from its neighbour, and then two do
+    Example {
+        name: "shift-by-tainted-amount",
+        kind: Kind::Shl,
+        numbers: &[0, 0, 4, 1, 4],
+        operands: &[("0000", "0000"), ("1", "1")],
+        outputs: &[("0000", "0000")],
+    },
+    Example {
+        name: "shift-by-tainted-amount",
+        kind: Kind::Shl,
+        numbers: &[0, 0, 4, 1, 4],
+        operands: &[("0001", "0000"), ("0", "1")],
+        outputs: &[("0001", "0011")],
+    },
+    // the sign bit moves in from the left, and an offset of -1 moves to the left
+    Example {
+        name: "shifts-plain",
+        kind: Kind::Sshr,
+        numbers: &[1, 0, 4, 2, 4],
+        operands: &[("1000", "0000"), ("01", "00")],
+        outputs: &[("1100", "0000")],
+    },
+    Example {
+        name: "shifts-plain",
+        kind: Kind::Shift,
+        numbers: &[0, 1, 4, 2, 4],
+        operands: &[("0011", "0000"), ("11", "00")],
+        outputs: &[("0110", "0000")],
+    },
+    // one bit of A is left at offset 3, and -128 by -1 is 128, which wraps
+    Example {
+        name: "shiftx-and-div-plain",
+        kind: Kind::Shiftx,
+        numbers: &[0, 0, 4, 3, 2],
+        operands: &[("1010", "0000"), ("011", "000")],
+        outputs: &[("01", "00")],
+    },
+    Example {
+        name: "shiftx-and-div-plain",
+        kind: Kind::Div,
+        numbers: &[1, 1, 8, 8, 8],
+        operands: &[("10000000", "00000000"), ("11111111", "00000000")],
+        outputs: &[("10000000", "00000000")],
+    },
+];
+
+/// Sums and differences.
+const SUMS: &[Example] = &[
+    // 6 or 7, and adding 1 to 7 carries to the highest bit
+    Example {
+        name: "add-carry-taint",
+        kind: Kind::Add,
+        numbers: &[0, 0, 4, 4, 4],
+        operands: &[("0110", "0001"), ("0001", "0000")],
+        outputs: &[("0111", "1111")],
+    },
+    Example {
+        name: "add of a tainted highest bit",
+        kind: Kind::Add,
+        numbers: &[0, 0, 4, 4, 4],
+        operands: &[("0110", "1000"), ("0001", "0000")],
+        outputs: &[("0111", "1000")],
+    },
+    // A is 00 or 11, so the sum is 01 or 00
+    Example {
+        name: "signed-split",
+        kind: Kind::Add,
+        numbers: &[1, 1, 1, 2, 2],
+        operands: &[("0", "1"), ("01", "00")],
+        outputs: &[("01", "01")],
+    },
+    // 4 - 1 is 0011, and 4 - 0 is 0100
+    Example {
+        name: "sub-borrow",
+        kind: Kind::Sub,
+        numbers: &[0, 0, 4, 4, 4],
+        operands: &[("0100", "0000"), ("0001", "0001")],
+        outputs: &[("0011", "0111")],
+    },
+    // 0 is 0, and -1 is 1111
+    Example {
+        name: "neg",
+        kind: Kind::Neg,
+        numbers: &[0, 2, 4],
+        operands: &[("00", "01")],
+        outputs: &[("0000", "1111")],
+    },
+    // A is 0000 or 1111, so -A is 0000 or 0001
+    Example {
+        name: "neg of a sign bit",
+        kind: Kind::Neg,
+        numbers: &[1, 1, 4],
+        operands: &[("0", "1")],
+        outputs: &[("0000", "0001")],
+    },
+];
+
+/// Comparisons, and the cell of sums with a carry.
+const COMPARISONS: &[Example] = &[
+    // 4 to 7 are all less than 8, and not all less than 6
+    Example {
+        name: "less-than-exact",
+        kind: Kind::Lt,
+        numbers: &[0, 0, 4, 4, 1],
+        operands: &[("0100", "0011"), ("1000", "0000")],
+        outputs: &[("1", "0")],
+    },
+    Example {
+        name: "less than some",
+        kind: Kind::Lt,
+        numbers: &[0, 0, 4, 4, 1],
+        operands: &[("0100", "0011"), ("0110", "0000")],
+        outputs: &[("1", "1")],
+    },
+    // -8 or 0 against 0, and -8 to -5
+    Example {
+        name: "signed-less",
+        kind: Kind::Lt,
+        numbers: &[1, 1, 4, 4, 1],
+        operands: &[("1000", "1000"), ("0000", "0000")],
+        outputs: &[("1", "1")],
+    },
+    Example {
+        name: "signed less than all",
+        kind: Kind::Lt,
+        numbers: &[1, 1, 4, 4, 1],
+        operands: &[("1000", "0011"), ("0000", "0000")],
+        outputs: &[("1", "0")],
+    },
+    // 4 to 7 against 5, and 8 to 11 against 5 or 7, with two bits of Y
+    Example {
+        name: "greater than some",
+        kind: Kind::Gt,
+        numbers: &[0, 0, 4, 3, 2],
+        operands: &[("0100", "0011"), ("101", "000")],
+        outputs: &[("00", "01")],
+    },
+    Example {
+        name: "greater than all",
+        kind: Kind::Gt,
+        numbers: &[0, 0, 4, 3, 2],
+        operands: &[("1000", "0011"), ("101", "010")],
+        outputs: &[("01", "00")],
+    },
+    Example {
+        name: "equal or not",
+        kind: Kind::Eq,
+        numbers: &[0, 0, 2, 2, 1],
+        operands: &[("10", "01"), ("10", "00")],
+        outputs: &[("1", "1")],
+    },
+    Example {
+        name: "never equal",
+        kind: Kind::Eq,
+        numbers: &[0, 0, 2, 2, 1],
+        operands: &[("10", "01"), ("00", "00")],
+        outputs: &[("0", "0")],
+    },
+    Example {
+        name: "always equal",
+        kind: Kind::Eq,
+        numbers: &[0, 0, 2, 2, 1],
+        operands: &[("10", "00"), ("10", "00")],
+        outputs: &[("1", "0")],
+    },
+    // 1 can be 01, and -1 is 11
+    Example {
+        name: "equal, extended",
+        kind: Kind::Eq,
+        numbers: &[0, 0, 1, 2, 1],
+        operands: &[("0", "1"), ("01", "00")],
+        outputs: &[("0", "1")],
+    },
+    Example {
+        name: "never equal, extended with its sign",
+        kind: Kind::Eq,
+        numbers: &[1, 1, 1, 2, 1],
+        operands: &[("0", "1"), ("01", "00")],
+        outputs: &[("0", "0")],
+    },
+    // 3 - 1, or 3 - 1 - 1 where CI is 0
+    Example {
+        name: "alu",
+        kind: Kind::Alu,
+        numbers: &[0, 0, 4, 4, 4],
+        operands: &[("0011", "0000"), ("0001", "0000"), ("1", "1"), ("1", "0")],
+        outputs: &[("1101", "0000"), ("0010", "0011"), ("1111", "0001")],
+    },
+];
+
+/// Products.
+const PRODUCTS: &[Example] = &[
+    // a factor is a known zero, and then every bit from the lowest tainted place on
+    Example {
+        name: "mul-coarse",
+        kind: Kind::Mul,
+        numbers: &[0, 0, 4, 4, 4],
+        operands: &[("0011", "1111"), ("0000", "0000")],
+        outputs: &[("0000", "0000")],
+    },
+    Example {
+        name: "mul-coarse",
+        kind: Kind::Mul,
+        numbers: &[0, 0, 4, 4, 4],
+        operands: &[("0011", "0010"), ("0001", "0000")],
+        outputs: &[("0011", "1110")],
+    },
+    Example {
+        name: "product with zero first",
+        kind: Kind::Mul,
+        numbers: &[0, 0, 4, 4, 4],
+        operands: &[("0000", "0000"), ("0011", "0001")],
+        outputs: &[("0000", "0000")],
+    },
+    Example {
+        name: "product of tainted zeros",
+        kind: Kind::Mul,
+        numbers: &[0, 0, 4, 4, 4],
+        operands: &[("0000", "0100"), ("0000", "1000")],
+        outputs: &[("0000", "1100")],
+    },
+    Example {
+        name: "product from place 0 on",
+        kind: Kind::Mul,
+        numbers: &[0, 0, 4, 4, 4],
+        operands: &[("0001", "1000"), ("0001", "0001")],
+        outputs: &[("0001", "1111")],
+    },
+    Example {
+        name: "product without taint",
+        kind: Kind::Mul,
+        numbers: &[0, 0, 4, 4, 4],
+        operands: &[("0111", "0000"), ("0010", "0000")],
+        outputs: &[("1110", "0000")],
+    },
+    Example {
+        name: "product, extended",
+        kind: Kind::Mul,
+        numbers: &[1, 1, 2, 3, 5],
+        operands: &[("01", "10"), ("001", "000")],
+        outputs: &[("00001", "11110")],
+    },
+    Example {
+        name: "product with the tainted place cut off",
+        kind: Kind::Mul,
+        numbers: &[0, 0, 4, 4, 2],
+        operands: &[("0001", "1000"), ("0001", "0000")],
+        outputs: &[("01", "00")],
+    },
+    Example {
+        name: "product with the only 1 cut off",
+        kind: Kind::Mul,
+        numbers: &[0, 0, 4, 4, 2],
+        operands: &[("1000", "0000"), ("0001", "1111")],
+        outputs: &[("00", "00")],
+    },
+];
+
+/// Quotients and remainders.
+const DIVISIONS: &[Example] = &[
+    // a known zero divisor, and then 8 to 11 by 2, which is 4 or 5
+    Example {
+        name: "div-coarse",
+        kind: Kind::Div,
+        numbers: &[0, 0, 4, 4, 4],
+        operands: &[("0111", "0000"), ("0000", "0000")],
+        outputs: &[("0000", "0000")],
+    },
+    Example {
+        name: "div-coarse",
+        kind: Kind::Div,
+        numbers: &[0, 0, 4, 4, 4],
+        operands: &[("1000", "0011"), ("0010", "0000")],
+        outputs: &[("0100", "0001")],
+    },
+    Example {
+        name: "tainted dividend by a known zero",
+        kind: Kind::Div,
+        numbers: &[0, 0, 4, 4, 4],
+        operands: &[("0111", "1111"), ("0000", "0000")],
+        outputs: &[("0000", "0000")],
+    },
+    Example {
+        name: "quotient of 2 and 8",
+        kind: Kind::Div,
+        numbers: &[0, 0, 4, 4, 4],
+        operands: &[("1000", "0000"), ("0001", "0010")],
+        outputs: &[("1000", "1111")],
+    },
+    // 0 and 2
+    Example {
+        name: "quotient by what can be zero",
+        kind: Kind::Div,
+        numbers: &[0, 0, 4, 4, 4],
+        operands: &[("0010", "0000"), ("0000", "0001")],
+        outputs: &[("0000", "0011")],
+    },
+    Example {
+        name: "quotient without taint",
+        kind: Kind::Div,
+        numbers: &[0, 0, 4, 4, 4],
+        operands: &[("0111", "0000"), ("0010", "0000")],
+        outputs: &[("0011", "0000")],
+    },
+    // 4 and 6, which differ at place 1
+    Example {
+        name: "quotient, cut",
+        kind: Kind::Div,
+        numbers: &[0, 0, 4, 2, 1],
+        operands: &[("1000", "0100"), ("10", "00")],
+        outputs: &[("0", "1")],
+    },
+    Example {
+        name: "quotient, extended",
+        kind: Kind::Div,
+        numbers: &[0, 0, 4, 2, 6],
+        operands: &[("1000", "0100"), ("10", "00")],
+        outputs: &[("000100", "000011")],
+    },
+    // 3 / 17 and 3 / 1
+    Example {
+        name: "quotient by a wider divisor",
+        kind: Kind::Div,
+        numbers: &[0, 0, 2, 5, 2],
+        operands: &[("11", "00"), ("00001", "10000")],
+        outputs: &[("11", "11")],
+    },
+    Example {
+        name: "quotient of bits",
+        kind: Kind::Div,
+        numbers: &[0, 0, 1, 1, 1],
+        operands: &[("1", "0"), ("0", "1")],
+        outputs: &[("0", "1")],
+    },
+    Example {
+        name: "widest quotient",
+        kind: Kind::Div,
+        numbers: &[0, 0, 128, 128, 128],
+        operands: &[
+            (
+                "00000000000000000000000000000000000000000000000000000000000000000000000000000000000000000000000000000000000000000000000000000000",
+                "10000000000000000000000000000000000000000000000000000000000000000000000000000000000000000000000000000000000000000000000000000000",
+            ),
+            (
+                "00000000000000000000000000000000000000000000000000000000000000000000000000000000000000000000000000000000000000000000000000000001",
+                "00000000000000000000000000000000000000000000000000000000000000000000000000000000000000000000000000000000000000000000000000000000",
+            ),
+        ],
+        outputs: &[(
+            "00000000000000000000000000000000000000000000000000000000000000000000000000000000000000000000000000000000000000000000000000000000",
+            "11111111111111111111111111111111111111111111111111111111111111111111111111111111111111111111111111111111111111111111111111111111",
+        )],
+    },
+    Example {
+        name: "remainder by a tainted divisor",
+        kind: Kind::Mod,
+        numbers: &[0, 0, 4, 4, 5],
+        operands: &[("0001", "0000"), ("0010", "0001")],
+        outputs: &[("00001", "11111")],
+    },
+    Example {
+        name: "remainder of a tainted dividend",
+        kind: Kind::Mod,
+        numbers: &[0, 0, 4, 4, 5],
+        operands: &[("0001", "1000"), ("0010", "0000")],
+        outputs: &[("00001", "11111")],
+    },
+    Example {
+        name: "remainder by what can be other than zero",
+        kind: Kind::Mod,
+        numbers: &[0, 0, 4, 4, 5],
+        operands: &[("0001", "0000"), ("0000", "1000")],
+        outputs: &[("00000", "11111")],
+    },
+    Example {
+        name: "remainder by a known zero",
+        kind: Kind::Mod,
+        numbers: &[0, 0, 4, 4, 5],
+        operands: &[("0001", "1111"), ("0000", "0000")],
+        outputs: &[("00000", "00000")],
+    },
+    Example {
+        name: "remainder without taint",
+        kind: Kind::Mod,
+        numbers: &[0, 0, 4, 4, 5],
+        operands: &[("0111", "0000"), ("0010", "0000")],
+        outputs: &[("00001", "00000")],
+    },
+];
+
+/// Words are those of an example, each by its place.
+fn assert_words(rt: &impl Abort, name: &str, words: &[Bits], wanted: &[Bits]) {
+    assert_eq!(rt; words.len(), wanted.len(), "{name}");
+    for (port, word) in words.iter().enumerate() {
+        assert!(rt; word.equals(&wanted[port]), "{name}");
     }
 }
 
-/// A word is that of a text.
-fn assert_word(rt: &impl Abort, alloc: Global, word: &Bits, text: &str) -> Result<(), Fail> {
-    let shown = word.to_text(alloc)?;
-    assert_eq!(rt; shown.as_slice(), text.as_bytes());
-    Ok(())
-}
-
-/// The outputs have these values and taints.
-fn assert_outputs(
-    rt: &impl Abort,
-    alloc: Global,
-    values: &[Bits],
-    taints: &[Bits],
-    wanted: &[Marked<'_>],
-) -> Result<(), Fail> {
-    assert_eq!(rt; values.len(), wanted.len());
-    assert_eq!(rt; taints.len(), wanted.len());
-    for (port, (value, taint)) in wanted.iter().enumerate() {
-        assert_word(rt, alloc, &values[port], value)?;
-        assert_word(rt, alloc, &taints[port], taint)?;
-    }
-    Ok(())
-}
-
-/// The taint of a cell by its rule, with which the enumeration agrees where the rule is exact.
-fn taints_of(
+/// A cell gives the values and the taints of an example, and the enumeration agrees where its taint is exact.
+fn check_cell(
     rt: &impl Abort,
     alloc: Global,
     cell: &Cell,
-    values: &[Bits],
-    taints: &[Bits],
-) -> Result<Vec<Bits>, NoMemory>
-    requires fitted { IsFitted cell.now }
-    requires values { map length values.now ≡ operand_widths cell.now }
-    requires taints { map length taints.now ≡ operand_widths cell.now }
-{
-    if has_rule(cell.kind()) {
-        assert!(rt; agrees(alloc, cell, values, taints)?);
-        taints_by_rule(alloc, cell, values, taints)
-    } else {
-        assert!(rt; rule_coarse::covers(cell.kind()));
-        coarse_by_rule(alloc, cell, values, taints)
-    }
-}
-
-/// A cell gives these values and taints for its outputs.
-fn assert_cell_gives(
-    rt: &impl Abort,
-    alloc: Global,
-    cell: &Cell,
-    operands: &Operands,
-    wanted: &[Marked<'_>],
+    operands: &Words,
+    example: &Example,
 ) -> Result<(), Fail>
     requires role { role_of cell.now.kind ≡ Role.Combinational }
     requires fitted { IsFitted cell.now }
     requires values { map length operands.now.values.items ≡ operand_widths cell.now }
     requires taints { map length operands.now.taints.items ≡ operand_widths cell.now }
 {
+    let wanted = read_words(rt, alloc, example.outputs)?;
     let values = meaning(alloc, cell, &operands.values)?;
-    let taints = taints_of(rt, alloc, cell, &operands.values, &operands.taints)?;
-    assert_outputs(rt, alloc, &values, &taints, wanted)
+    assert_words(rt, example.name, &values, &wanted.values);
+    let taints = taint_of(alloc, cell, &operands.values, &operands.taints)?;
+    assert_words(rt, example.name, &taints, &wanted.taints);
+    if is_exact(cell.kind()) {
+        assert!(rt; agrees(alloc, cell, &operands.values, &operands.taints)?);
+    }
+    Ok(())
 }
 
-/// The cell of a shape gives these values and taints for its outputs, for operands of these texts.
-fn assert_all_given(
-    rt: &impl Abort,
-    alloc: Global,
-    shape: &Shape<'_>,
-    texts: &[Marked<'_>],
-    wanted: &[Marked<'_>],
-) -> Result<(), Fail> {
-    let operands = Operands::of(rt, alloc, texts)?;
-    let netlist = Netlist::build(alloc, module_of(alloc, shape)?)?;
+/// The cell of an example gives what the example says.
+fn check(rt: &impl Abort, alloc: Global, example: &Example) -> Result<(), Fail> {
+    let operands = read_words(rt, alloc, example.operands)?;
+    let shape = Shape {
+        kind: example.kind,
+        numbers: example.numbers,
+    };
+    let module = module_of(alloc, &shape)?;
+    assert!(rt; module.is_in_order());
+    let netlist = Netlist::build(alloc, module)?;
     let cells = netlist.cells();
-    assert_eq!(rt; cells.len(), 1);
+    assert_eq!(rt; cells.len(), 1, "{}", example.name);
     let cell = &cells[0];
-    assert!(rt; is_combinational(cell.kind()));
+    assert!(rt; covers(cell.kind()));
     assert!(rt; are_operands(cell, &operands.values));
     assert!(rt; are_operands(cell, &operands.taints));
-    assert_cell_gives(rt, alloc, cell, &operands, wanted)
+    check_cell(rt, alloc, cell, &operands, example)
 }
 
-/// The cell of a shape has one output, with this value and taint, for operands of these texts.
-fn assert_gives(
-    rt: &impl Abort,
-    alloc: Global,
-    shape: &Shape<'_>,
-    texts: &[Marked<'_>],
-    wanted: Marked<'_>,
-) -> Result<(), Fail> {
-    assert_all_given(rt, alloc, shape, texts, &[wanted])
-}
-
-/// Whether cells of this kind give words that their operands determine.
-fn is_combinational(kind: Kind) -> bool
-    ensures { IsTrue result → role_of kind ≡ Role.Combinational }
-{
-    matches!(table::role(kind), Role::Combinational)
-}
-
-// 1010 is 0 for the one bit of A, and 101 for the three of B.
-#[test]
-fn words_of_a_number(rt: HostRuntime) -> Result<(), Fail> {
-    let shape = Shape {
-        kind: Kind::And,
-        numbers: &[0, 0, 1, 3, 3],
-    };
-    let netlist = Netlist::build(rt.alloc(), module_of(rt.alloc(), &shape)?)?;
-    let cells = netlist.cells();
-    assert_eq!(rt; cells.len(), 1);
-    let words = words_of(rt.alloc(), &cells[0], 10)?;
-    assert_eq!(rt; words.len(), 2);
-    assert_word(&rt, rt.alloc(), &words[0], "0")?;
-    assert_word(&rt, rt.alloc(), &words[1], "101")
-}
-
-#[test]
-fn reduce_and(rt: HostRuntime) -> Result<(), Fail> {
-    let shape = Shape {
-        kind: Kind::ReduceAnd,
-        numbers: &[0, 2, 1],
-    };
-    // The other bit is 0 and untainted.
-    assert_gives(&rt, rt.alloc(), &shape, &[("01", "01")], ("0", "0"))?;
-    // The other bit is 1.
-    assert_gives(&rt, rt.alloc(), &shape, &[("10", "01")], ("0", "1"))
-}
-
-#[test]
-fn logic_and(rt: HostRuntime) -> Result<(), Fail> {
-    let shape = Shape {
-        kind: Kind::LogicAnd,
-        numbers: &[0, 0, 2, 2, 1],
-    };
-    let rows = [
-        ([("01", "01"), ("00", "00")], ("0", "0")),
-        ([("01", "01"), ("10", "00")], ("1", "1")),
-    ];
-    for (operands, wanted) in rows {
-        assert_gives(&rt, rt.alloc(), &shape, &operands, wanted)?;
-    }
-    Ok(())
-}
-
-// Each reader of a net has a copy of its own, which is completed alone.
-#[test]
-fn same_net_twice(rt: HostRuntime) -> Result<(), Fail> {
-    let shape = Shape {
-        kind: Kind::Xor,
-        numbers: &[0, 0, 1, 1, 1],
-    };
-    assert_gives(
-        &rt,
-        rt.alloc(),
-        &shape,
-        &[("0", "1"), ("0", "1")],
-        ("0", "1"),
-    )
-}
-
-#[test]
-fn mux_tainted_select(rt: HostRuntime) -> Result<(), Fail> {
-    let shape = Shape {
-        kind: Kind::Mux,
-        numbers: &[4],
-    };
-    let rows = [
-        (
-            [("1010", "0000"), ("1010", "0000"), ("0", "1")],
-            ("1010", "0000"),
-        ),
-        (
-            [("1010", "0000"), ("1011", "0000"), ("0", "1")],
-            ("1010", "0001"),
-        ),
-    ];
-    for (operands, wanted) in rows {
-        assert_gives(&rt, rt.alloc(), &shape, &operands, wanted)?;
+/// Every cell of a table gives what its example says.
+fn check_all(rt: &impl Abort, alloc: Global, examples: &[Example]) -> Result<(), Fail> {
+    for example in examples {
+        check(rt, alloc, example)?;
     }
     Ok(())
 }
 
 #[test]
-fn and_taint(rt: HostRuntime) -> Result<(), Fail> {
-    let shape = Shape {
-        kind: Kind::And,
-        numbers: &[0, 0, 1, 1, 1],
-    };
-    let rows = [
-        ([("0", "1"), ("0", "0")], ("0", "0")),
-        ([("0", "1"), ("1", "0")], ("0", "1")),
-    ];
-    for (operands, wanted) in rows {
-        assert_gives(&rt, rt.alloc(), &shape, &operands, wanted)?;
-    }
-    Ok(())
-}
-
-// A is 6 or 7, and adding 1 to 7 carries to the highest bit.
-#[test]
-fn add_carry_taint(rt: HostRuntime) -> Result<(), Fail> {
-    let shape = Shape {
-        kind: Kind::Add,
-        numbers: &[0, 0, 4, 4, 4],
-    };
-    let operands = [("0110", "0001"), ("0001", "0000")];
-    assert_gives(&rt, rt.alloc(), &shape, &operands, ("0111", "1111"))
-}
-
-// 4 to 7 are all less than 8.
-#[test]
-fn less_than_exact(rt: HostRuntime) -> Result<(), Fail> {
-    let shape = Shape {
-        kind: Kind::Lt,
-        numbers: &[0, 0, 4, 4, 1],
-    };
-    let operands = [("0100", "0011"), ("1000", "0000")];
-    assert_gives(&rt, rt.alloc(), &shape, &operands, ("1", "0"))
-}
-
-// A is 00 or 11, so the sum is 01 or 00.
-#[test]
-fn signed_split(rt: HostRuntime) -> Result<(), Fail> {
-    let shape = Shape {
-        kind: Kind::Add,
-        numbers: &[1, 1, 1, 2, 2],
-    };
-    let operands = [("0", "1"), ("01", "00")];
-    assert_gives(&rt, rt.alloc(), &shape, &operands, ("01", "01"))
-}
-
-// 3 - 1, or 3 - 1 - 1 where CI is 0.
-#[test]
-fn alu(rt: HostRuntime) -> Result<(), Fail> {
-    let shape = Shape {
-        kind: Kind::Alu,
-        numbers: &[0, 0, 4, 4, 4],
-    };
-    let operands = [("0011", "0000"), ("0001", "0000"), ("1", "1"), ("1", "0")];
-    let wanted = [("1101", "0000"), ("0010", "0011"), ("1111", "0001")];
-    assert_all_given(&rt, rt.alloc(), &shape, &operands, &wanted)
-}
-
-// 4 - 1 is 0011, and 4 - 0 is 0100.
-#[test]
-fn sub_borrow(rt: HostRuntime) -> Result<(), Fail> {
-    let shape = Shape {
-        kind: Kind::Sub,
-        numbers: &[0, 0, 4, 4, 4],
-    };
-    let operands = [("0100", "0000"), ("0001", "0001")];
-    assert_gives(&rt, rt.alloc(), &shape, &operands, ("0011", "0111"))
-}
-
-// -8 or 0 against 0.
-#[test]
-fn signed_less(rt: HostRuntime) -> Result<(), Fail> {
-    let shape = Shape {
-        kind: Kind::Lt,
-        numbers: &[1, 1, 4, 4, 1],
-    };
-    let operands = [("1000", "1000"), ("0000", "0000")];
-    assert_gives(&rt, rt.alloc(), &shape, &operands, ("1", "1"))
+fn logic(rt: HostRuntime) -> Result<(), Fail> {
+    check_all(&rt, rt.alloc(), LOGIC)
 }
 
 #[test]
-fn shift_by_tainted_amount(rt: HostRuntime) -> Result<(), Fail> {
-    let shape = Shape {
-        kind: Kind::Shl,
-        numbers: &[0, 0, 4, 1, 4],
-    };
-    let rows = [
-        // No bit differs from its neighbour.
-        ([("0000", "0000"), ("1", "1")], ("0000", "0000")),
-        ([("0001", "0000"), ("0", "1")], ("0001", "0011")),
-    ];
-    for (operands, wanted) in rows {
-        assert_gives(&rt, rt.alloc(), &shape, &operands, wanted)?;
-    }
-    Ok(())
-}
-
-// The words of B are 01 and, above it, 10; the lowest select bit that is 1 chooses.
-#[test]
-fn pmux(rt: HostRuntime) -> Result<(), Fail> {
-    let shape = Shape {
-        kind: Kind::Pmux,
-        numbers: &[2, 2],
-    };
-    let rows = [
-        (("11", "00"), ("01", "00")),
-        (("00", "00"), ("00", "00")),
-        (("11", "01"), ("01", "11")),
-    ];
-    for (select, wanted) in rows {
-        let operands = [("00", "00"), ("1001", "0000"), select];
-        assert_gives(&rt, rt.alloc(), &shape, &operands, wanted)?;
-    }
-    Ok(())
-}
-
-// Places 1 and 3 hold the same, places 0 and 1 do not.
-#[test]
-fn bmux(rt: HostRuntime) -> Result<(), Fail> {
-    let shape = Shape {
-        kind: Kind::Bmux,
-        numbers: &[1, 2],
-    };
-    let rows = [(("01", "10"), ("1", "0")), (("01", "01"), ("1", "1"))];
-    for (select, wanted) in rows {
-        let operands = [("1110", "0000"), select];
-        assert_gives(&rt, rt.alloc(), &shape, &operands, wanted)?;
-    }
-    Ok(())
+fn shifts(rt: HostRuntime) -> Result<(), Fail> {
+    check_all(&rt, rt.alloc(), SHIFTS)
 }
 
 #[test]
-fn mul_coarse(rt: HostRuntime) -> Result<(), Fail> {
-    let shape = Shape {
-        kind: Kind::Mul,
-        numbers: &[0, 0, 4, 4, 4],
-    };
-    let rows = [
-        // A factor is a known zero.
-        ([("0011", "1111"), ("0000", "0000")], ("0000", "0000")),
-        // From the lowest tainted place on.
-        ([("0011", "0010"), ("0001", "0000")], ("0011", "1110")),
-    ];
-    for (operands, wanted) in rows {
-        assert_gives(&rt, rt.alloc(), &shape, &operands, wanted)?;
-    }
-    Ok(())
+fn sums(rt: HostRuntime) -> Result<(), Fail> {
+    check_all(&rt, rt.alloc(), SUMS)
 }
 
 #[test]
-fn div_coarse(rt: HostRuntime) -> Result<(), Fail> {
-    let shape = Shape {
-        kind: Kind::Div,
-        numbers: &[0, 0, 4, 4, 4],
-    };
-    let rows = [
-        ([("0111", "0000"), ("0000", "0000")], ("0000", "0000")),
-        // 8 to 11, by 2, is 4 or 5.
-        ([("1000", "0011"), ("0010", "0000")], ("0100", "0001")),
-    ];
-    for (operands, wanted) in rows {
-        assert_gives(&rt, rt.alloc(), &shape, &operands, wanted)?;
-    }
-    Ok(())
+fn comparisons(rt: HostRuntime) -> Result<(), Fail> {
+    check_all(&rt, rt.alloc(), COMPARISONS)
 }
 
-// The sign bit moves in from the left, and an offset of -1 moves to the left.
 #[test]
-fn shifts_plain(rt: HostRuntime) -> Result<(), Fail> {
-    let shape = Shape {
-        kind: Kind::Sshr,
-        numbers: &[1, 0, 4, 2, 4],
-    };
-    let operands = [("1000", "0000"), ("01", "00")];
-    assert_gives(&rt, rt.alloc(), &shape, &operands, ("1100", "0000"))?;
-    let shape = Shape {
-        kind: Kind::Shift,
-        numbers: &[0, 1, 4, 2, 4],
-    };
-    let operands = [("0011", "0000"), ("11", "00")];
-    assert_gives(&rt, rt.alloc(), &shape, &operands, ("0110", "0000"))
+fn products(rt: HostRuntime) -> Result<(), Fail> {
+    check_all(&rt, rt.alloc(), PRODUCTS)
 }
 
-// One bit of A is left at offset 3, and -128 by -1 is 128, which wraps.
 #[test]
-fn shiftx_and_div_plain(rt: HostRuntime) -> Result<(), Fail> {
-    let shape = Shape {
-        kind: Kind::Shiftx,
-        numbers: &[0, 0, 4, 3, 2],
-    };
-    let operands = [("1010", "0000"), ("011", "000")];
-    assert_gives(&rt, rt.alloc(), &shape, &operands, ("01", "00"))?;
-    let shape = Shape {
-        kind: Kind::Div,
-        numbers: &[1, 1, 8, 8, 8],
-    };
-    let operands = [("10000000", "00000000"), ("11111111", "00000000")];
-    assert_gives(&rt, rt.alloc(), &shape, &operands, ("10000000", "00000000"))
+fn divisions(rt: HostRuntime) -> Result<(), Fail> {
+    check_all(&rt, rt.alloc(), DIVISIONS)
 }

@@ -1,11 +1,11 @@
 // The taint of products and divisions on plain numbers, from the words of their rules.
 
 use cif_bits::Bits;
-use cif_cells::{Cell, Kind, Param};
+use cif_kinds::{Cell, Kind, Param};
 use std::process::Abort;
 
 /// An operand of at most 63 bits: its number, and the number that its tainted bits make.
-#[derive(Clone, Copy, Debug, Drop)]
+#[derive(Clone, Copy)]
 struct Operand {
     value: u64,
     taint: u64,
@@ -146,13 +146,4 @@ pub fn is_coarse_taint(
     words.len() == 1
         && u64::from(words[0].width()) == cell.number(Param::YWidth)
         && number_of(&words[0]) == coarse_number(cell, first, second)
-}
-
-// Of 3 bits: 5 is 101.
-#[test]
-fn numbers(rt: HostRuntime) {
-    assert_eq!(rt; ones(3), 7);
-    assert_eq!(rt; extended(5, 3, 5, true), 29);
-    assert_eq!(rt; extended(5, 3, 5, false), 5);
-    assert_eq!(rt; extended(5, 3, 2, true), 1);
 }

@@ -12,7 +12,7 @@ use Rattle.cif_defs.proofs.WordLaws.{length-word}
 use Rattle.cif_term.specs.declared.ops.Op1.TheVariants.{ReduceOr}
 use Rattle.cif_term.specs.declared.ops.Op2.TheVariants.{And, Or}
 use Rattle.cif_term.specs.Formulas.{Formula, One, Taint, Two, Value, IsFormed, value_of}
-use Rattle.cif_term.proofs.Forms.{formed_taint, formed_value}
+use Rattle.cif_term.proofs.FormedFormulas.{formed_taint, formed_value}
 use Rattle.cif_term.proofs.Values.{value-extended}
 use Rattle.rule_logic.specs.LogicFormulas.{max_formula}
 use Rattle.rule_logic.proofs.LogicTaints.{IsRule}

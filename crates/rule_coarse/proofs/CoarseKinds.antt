@@ -11,7 +11,7 @@ use Rattle.cif_defs.specs.declared.kinds.Kind.{Kind}
 use Rattle.cif_defs.specs.declared.kinds.Kind.TheVariants.{Mul, Div, Mod, DivFloor, ModFloor}
 use Rattle.cif_defs.specs.declared.kinds.Param.TheVariants.{AWidth, BWidth}
 use Rattle.cif_term.specs.CellTaints.{AreTaintsOf}
-use Rattle.cif_term.proofs.CellTaints.{one_output}
+use Rattle.cif_term.proofs.ExactTaintWords.{one_output}
 use Rattle.rule_logic.proofs.LogicTaints.{IsRule}
 use Rattle.rule_coarse.specs.CoarseFormulas.{coarse_formula, coarse_formula_by, covers_coarse, division_formula, quotient_formula}
 use Rattle.rule_coarse.proofs.CoarseShapes.{IsNumeric, numeric}
@@ -86,7 +86,7 @@ div_is c false s k u = quotient_rule c u (weight-div c k) (ap is_coarse k) (div_
 -- ---- all five
 
 -- the formula of its kind is a cell's taint, within its weight
-rule_by : (k : Kind) (c : Cell) → c.kind ≡ k → covers_coarse k ≡ true → IsNumeric c → IsRule c (coarse_formula_by k c 0)
+rule_by : (k : Kind) (c : Cell) → c.kind ≡ k → covers_coarse k ≡ true → IsNumeric c → IsRule c (coarse_formula_by k c)
 unfolding coarse_formula_by
 rule_by Mul c e h u = product_rule c u (weight-mul c e) (ap is_coarse e) (mul_row c e)
 rule_by Div c e h u = div_is c (both_signed c) refl e u
@@ -107,5 +107,5 @@ outputs_by _ h = absurd (cc)
 pub one_coarse_output : (c : Cell) → covers_coarse c.kind ≡ true → length (outputs_of c.kind) ≡ 1
 one_coarse_output c h = outputs_by c.kind h
 
-pub coarse_taints : (c : Cell) → covers_coarse c.kind ≡ true → IsFitted c → AreTaintsOf c (coarse_formula c 0 ∷ [])
-coarse_taints c h f = let r : IsRule c (coarse_formula c 0) = rule_by c.kind c refl h (coarse_shape c h f) in one_output c (coarse_formula c 0) (one_coarse_output c h) r.taint r.cost
+pub coarse_taints : (c : Cell) → covers_coarse c.kind ≡ true → IsFitted c → AreTaintsOf c (coarse_formula c ∷ [])
+coarse_taints c h f = let r : IsRule c (coarse_formula c) = rule_by c.kind c refl h (coarse_shape c h f) in one_output c (coarse_formula c) (one_coarse_output c h) r.taint r.cost

@@ -11,7 +11,7 @@ use Rattle.cif_defs.proofs.WordLaws.{length-word}
 use Rattle.cif_term.specs.declared.ops.Op1.TheVariants.{Not, ReduceOr}
 use Rattle.cif_term.specs.declared.ops.Op2.TheVariants.{Add, And, Or}
 use Rattle.cif_term.specs.Formulas.{Const, Formula, Taint, Two, Value, IsFormed, one_word, two_word, value_of}
-use Rattle.cif_term.proofs.Forms.{formed_const}
+use Rattle.cif_term.proofs.FormedFormulas.{formed_const}
 use Rattle.cif_term.proofs.Values.{value-and, value-extended, value-or}
 use Rattle.rule_logic.specs.LogicFormulas.{taint_at}
 use Rattle.rule_logic.proofs.LogicTaints.{IsRule}

@@ -23,7 +23,7 @@ use Rattle.cif_term.specs.declared.ops.Op1.TheVariants.{Not, ReduceOr}
 use Rattle.cif_term.specs.declared.ops.Op2.TheVariants.{And, Div, Or, Xor}
 use Rattle.cif_term.specs.Formulas.{Bound, Choose, Const, Formula, Two, IsFormed, picked, two_word, value_of}
 use Rattle.cif_term.specs.Extended.{extended}
-use Rattle.cif_term.proofs.Forms.{formed_bound, formed_const, formed_let, formed_pick}
+use Rattle.cif_term.proofs.FormedFormulas.{formed_bound, formed_const, formed_let, formed_pick}
 use Rattle.cif_term.proofs.Values.{value-and, value-extended}
 use Rattle.rule_logic.specs.LogicFormulas.{max_formula, min_formula}
 use Rattle.rule_logic.proofs.LogicTaints.{IsRule}

@@ -22,7 +22,7 @@ use Rattle.cif_term.specs.declared.ops.Op2.TheVariants.{And, Or, Xor, Add, Mul, 
 use Rattle.cif_term.specs.Formulas.{Formula, One, Two, Choose, IsFormed, cost_of, joined_pieces, one_cost, one_width, pieces, two_cost, two_width, value_of, width_of}
 use Rattle.cif_term.specs.CellTaints.{output_width, taint_word}
 use Rattle.cif_term.specs.Extended.{extended}
-use Rattle.cif_term.proofs.Forms.{formed_choose, formed_extended, formed_one, formed_two, pieces_narrow, raised}
+use Rattle.cif_term.proofs.FormedFormulas.{formed_choose, formed_extended, formed_one, formed_two, pieces_narrow, raised}
 use Rattle.rule_logic.proofs.LogicTaints.{IsRule}
 use Rattle.rule_logic.proofs.Shapes.{HasRows, has_rows, two_words}
 

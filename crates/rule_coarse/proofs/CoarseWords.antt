@@ -17,7 +17,7 @@ use Rattle.cif_defs.proofs.Sums.{bit-ripple, carry, ripple, word_of-sum}
 use Rattle.cif_term.specs.declared.ops.Op1.TheVariants.{Not}
 use Rattle.cif_term.specs.declared.ops.Op2.TheVariants.{Or, Add}
 use Rattle.cif_term.specs.Formulas.{one_word, picked, two_word}
-use Rattle.cif_term.proofs.CellTaints.{same_tests}
+use Rattle.cif_term.proofs.ExactTaintWords.{same_tests}
 use Rattle.rule_coarse.specs.CoarseFormulas.{ones, places_down}
 
 -- ---- a word that has a 1

@@ -104,14 +104,14 @@ quotient_formula n a b = Two And (division_formula n) (extended n false (max a b
 abbrev pub div_formula : Cell → Formula
 div_formula c = if both_signed c then division_formula (y_width c) else quotient_formula (y_width c) (number_of c AWidth) (number_of c BWidth)
 
-unfoldable pub coarse_formula_by : Kind → Cell → ℕ → Formula
-coarse_formula_by MulKind c p = product_formula (y_width c) (both_signed c) (number_of c AWidth) (number_of c BWidth)
-coarse_formula_by DivKind c p = div_formula c
-coarse_formula_by Mod c p = division_formula (y_width c)
-coarse_formula_by DivFloor c p = division_formula (y_width c)
-coarse_formula_by ModFloor c p = division_formula (y_width c)
-coarse_formula_by _ c p = Taint 0
+unfoldable pub coarse_formula_by : Kind → Cell → Formula
+coarse_formula_by MulKind c = product_formula (y_width c) (both_signed c) (number_of c AWidth) (number_of c BWidth)
+coarse_formula_by DivKind c = div_formula c
+coarse_formula_by Mod c = division_formula (y_width c)
+coarse_formula_by DivFloor c = division_formula (y_width c)
+coarse_formula_by ModFloor c = division_formula (y_width c)
+coarse_formula_by _ c = Taint 0
 
--- the formula of the taint of output p
-abbrev pub coarse_formula : Cell → ℕ → Formula
-coarse_formula c p = coarse_formula_by c.kind c p
+-- the formula of the taint of a cell's one output
+abbrev pub coarse_formula : Cell → Formula
+coarse_formula c = coarse_formula_by c.kind c

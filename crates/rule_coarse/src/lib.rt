@@ -10,8 +10,6 @@ mod product;
 mod quotient;
 mod shadow;
 mod shape;
-#[cfg(test)]
-mod tests;
 
 ghost use Rattle.std.specs.Prelude.{◌≡◌, true, map, IfOk};
 ghost use Rattle.cif_defs.specs.Fitted.{IsFitted};
@@ -20,9 +18,9 @@ ghost use Rattle.cif_term.specs.TermView.{formula_of};
 ghost use Rattle.rule_coarse.specs.CoarseFormulas.{covers_coarse};
 
 use cif_bits::NoMemory;
-use cif_cells::Cell;
 use cif_defs::Kind;
-use cif_term::Term;
+use cif_kinds::Cell;
+use cif_term::{Term, all_terms};
 pub use shadow::CoarseShadow;
 use std::alloc::Global;
 
@@ -43,7 +41,5 @@ pub fn taint_terms(alloc: Global, cell: &Cell) -> Result<Vec<Term>, NoMemory>
     requires fitted { IsFitted cell.now }
     ensures { IfOk result (λ ts. AreTaintsOf cell.now (map formula_of ts.items)) }
 {
-    let mut terms = Vec::with_capacity(alloc, 1)?;
-    terms.push(shadow::coarse_term(alloc, cell)?)?;
-    Ok(terms)
+    Ok(all_terms(alloc, &CoarseShadow::of(cell))?)
 }

@@ -13,7 +13,7 @@ use crate::product::product_term;
 use crate::quotient::quotient_term;
 use crate::shape::Shape;
 use cif_bits::NoMemory;
-use cif_cells::{Cell, Kind, table};
+use cif_kinds::{Cell, Kind, table};
 use cif_term::{Shadow, Term};
 use std::alloc::Global;
 use std::marker::Model;
@@ -34,21 +34,22 @@ fn div_term(alloc: Global, cell: &Cell) -> Result<Term, NoMemory>
 
 /// The term of the output's taint.
 #[tactic(auto, unfolding(crate::specs::CoarseFormulas::coarse_formula_by))]
-pub fn coarse_term(alloc: Global, cell: &Cell) -> Result<Term, NoMemory>
+fn coarse_term(alloc: Global, cell: &Cell) -> Result<Term, NoMemory>
     requires covered { covers_coarse cell.now.kind ≡ true }
     requires fitted { IsFitted cell.now }
-    ensures { IfOk result (λ t. formula_of t ≡ coarse_formula cell.now 0) }
+    ensures { IfOk result (λ t. formula_of t ≡ coarse_formula cell.now) }
 {
     let shape = Shape::of(cell);
     match cell.kind() {
         Kind::Mul => Ok(product_term(alloc, shape)?),
         Kind::Div => Ok(div_term(alloc, cell)?),
         Kind::Mod | Kind::DivFloor | Kind::ModFloor => Ok(division_term(alloc, shape.y)?),
-        _ => Ok(Term::Taint(0)),
+        _ => unreachable!(),
     }
 }
 
 /// The shadow logic of a cell of a coarse kind: a term for its one output.
+#[derive(Drop)]
 pub struct CoarseShadow<'a> {
     cell: &'a Cell,
 }
@@ -81,6 +82,8 @@ impl<'a> Shadow for CoarseShadow<'a> {
     ghost widths = { operand_widths };
 
     ghost count = { λ c. length (outputs_of c.kind) };
+
+    ghost formula = { λ c _. coarse_formula c };
 
     ghost meant = { taint_word };
 

@@ -4,7 +4,7 @@ ghost use Rattle.cif_defs.specs.Cells.{both_signed, number_of, y_width};
 ghost use Rattle.cif_defs.specs.Fitted.{IsFitted};
 ghost use Rattle.rule_coarse.specs.CoarseFormulas.{covers_coarse};
 
-use cif_cells::{Cell, Param};
+use cif_kinds::{Cell, Param};
 
 /// How many bits A, B and Y of a cell have, 1 to 128 each, and whether both operands are signed.
 #[derive(Clone, Copy)]

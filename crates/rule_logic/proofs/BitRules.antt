@@ -52,7 +52,7 @@ two_exact op rule s n v v' t t' table e e' =
     exact_by_bits n (λ i us. bit (two_words op n s us) i) (two_of op) (λ i. two_places s i) (λ i. rule (extended_bit s i v) (extended_bit s i t) (extended_bit s i v') (extended_bit s i t')) (v ∷ v' ∷ []) (t ∷ t' ∷ []) _
     (λ i. refl) (e, (e', tt)) (λ i us h c. two_reads op s n i v v' t t' us h c) (λ i h. table (extended_bit s i v) (extended_bit s i t) (extended_bit s i v') (extended_bit s i t')) refl
 
--- ---- truth tables, written by a script: each row is computed
+-- ---- truth tables, printed by docs/tables.py rows NAME N: each row is computed
 
 pub same_table : (x tx : Bool) → bits_can_differ (one_of (λ b. b)) (x ∷ []) (tx ∷ []) ≡ tx
 same_table true true = refl

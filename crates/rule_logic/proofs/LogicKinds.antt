@@ -16,7 +16,7 @@ use Rattle.cif_defs.specs.declared.kinds.Param.TheVariants.{AWidth, BWidth}
 use Rattle.cif_term.specs.declared.ops.Op1.TheVariants.{Not, ReduceAnd, ReduceOr}
 use Rattle.cif_term.specs.declared.ops.Op2.TheVariants.{And, Or}
 use Rattle.cif_term.specs.Formulas.{Formula, Value, Taint, One, Two, IsFormed, joined_pieces, pieces, value_of}
-use Rattle.cif_term.proofs.Forms.{formed_one, formed_taint, formed_value, pieces_narrow, raised}
+use Rattle.cif_term.proofs.FormedFormulas.{formed_one, formed_taint, formed_value, pieces_narrow, raised}
 use Rattle.cif_term.proofs.Values.{value-and, value-not, value-or}
 use Rattle.rule_logic.specs.LogicFormulas.{and_formula, either_formula, is_binary, is_unary, logic_and_formula, logic_or_formula, max_formula, min_formula, or_formula, reduce_and_formula, reduce_or_formula, reduce_xor_formula, flag_formula, spread}
 use Rattle.rule_logic.proofs.BitRules.{and_rule, and_table, either_rule, not_table, or_rule, or_table, same_table, xnor_bits, xnor_table, xor_table}

@@ -28,9 +28,9 @@ use Rattle.cif_term.specs.declared.ops.Op1.TheVariants.{Not}
 use Rattle.cif_term.specs.declared.ops.Op2.TheVariants.{Or}
 use Rattle.cif_term.specs.Formulas.{Formula, Taint, Pick, Join, One, Two, IsFormed, cost_of, picked, value_of}
 use Rattle.cif_term.specs.CellTaints.{AreTaintsOf, IsTaintOf, output_width}
-use Rattle.cif_term.proofs.Forms.{formed_join, formed_pick}
+use Rattle.cif_term.proofs.FormedFormulas.{formed_join, formed_pick}
 use Rattle.cif_term.proofs.Values.{value-and, value-not, value-or}
-use Rattle.cif_term.proofs.CellTaints.{one_output, two_outputs}
+use Rattle.cif_term.proofs.ExactTaintWords.{one_output, two_outputs}
 use Rattle.rule_logic.specs.LogicFormulas.{covers_logic, fa_carry_formula, fa_sum_formula, logic_by, logic_formula, majority_formula, max_formula, min_formula}
 use Rattle.rule_logic.proofs.Monotone.{maxes, mins, spreads}
 use Rattle.rule_logic.proofs.BitRules.{carry_exact, place_bit, places_exact, sum_exact}

@@ -17,7 +17,7 @@ use Rattle.cif_term.specs.declared.ops.Op1.TheVariants.{Not}
 use Rattle.cif_term.specs.declared.ops.Op2.TheVariants.{And, Or}
 use Rattle.cif_term.specs.Formulas.{Formula, Value, Taint, One, Two, IsFormed, cost_of, value_of}
 use Rattle.cif_term.specs.CellTaints.{IsTaintOf, output_width}
-use Rattle.cif_term.proofs.Forms.{formed_extended, formed_one, formed_taint, formed_two, formed_value, pieces_narrow, raised}
+use Rattle.cif_term.proofs.FormedFormulas.{formed_extended, formed_one, formed_taint, formed_two, formed_value, pieces_narrow, raised}
 use Rattle.cif_term.proofs.Values.{value-extended}
 use Rattle.rule_logic.specs.LogicFormulas.{flag_formula, taint_at, value_at}
 use Rattle.rule_logic.proofs.BitRules.{one_exact, one_of, two_exact, two_of}

@@ -13,7 +13,7 @@ use Rattle.cif_defs.specs.declared.kinds.Kind.TheVariants.{Mem}
 use Rattle.cif_defs.specs.declared.kinds.PortRow.{PortRow}
 use Rattle.cif_term.specs.Formulas.{Formula, IsFormed, value_of, width_of}
 use Rattle.cif_term.specs.CellTaints.{IsTaintOf, output_width}
-use Rattle.cif_term.proofs.CellTaints.{exact_taint}
+use Rattle.cif_term.proofs.ExactTaintWords.{exact_taint}
 
 -- ---- ports
 

@@ -6,7 +6,7 @@ ghost use Rattle.cif_term.specs.TermView.{formula_of};
 ghost use Rattle.rule_logic.specs.LogicFormulas.{is_unary, is_binary, and_formula, or_formula, binary_formula, either_taint_formula, taint_at, value_at};
 
 use cif_bits::NoMemory;
-use cif_cells::{Cell, Param};
+use cif_kinds::{Cell, Param};
 use cif_term::{Op1, Op2, Term};
 use std::alloc::Global;
 

@@ -17,9 +17,9 @@ ghost use Rattle.cif_term.specs.TermView.{formula_of};
 ghost use Rattle.rule_logic.specs.LogicFormulas.{covers_logic};
 
 use cif_bits::NoMemory;
-use cif_cells::Cell;
 use cif_defs::Kind;
-use cif_term::Term;
+use cif_kinds::Cell;
+use cif_term::{Term, all_terms};
 pub use shadow::LogicShadow;
 use std::alloc::Global;
 
@@ -56,5 +56,5 @@ pub fn taint_terms(alloc: Global, cell: &Cell) -> Result<Vec<Term>, NoMemory>
     requires fitted { IsFitted cell.now }
     ensures { IfOk result (λ ts. AreTaintsOf cell.now (map formula_of ts.items)) }
 {
-    Ok(shadow::all_terms(alloc, cell)?)
+    Ok(all_terms(alloc, &LogicShadow::of(cell))?)
 }

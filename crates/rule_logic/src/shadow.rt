@@ -6,7 +6,7 @@ ghost use Rattle.cif_defs.specs.Cells.{number_of, y_width};
 ghost use Rattle.cif_defs.specs.Fitted.{IsFitted, operand_widths};
 ghost use Rattle.cif_defs.specs.Table.{outputs_of};
 ghost use Rattle.cif_term.specs.Formulas.{value_of, width_of, Pick, Taint};
-ghost use Rattle.cif_term.specs.CellTaints.{AreTaintsOf, taint_word};
+ghost use Rattle.cif_term.specs.CellTaints.{taint_word};
 ghost use Rattle.cif_term.specs.TermView.{formula_of};
 ghost use Rattle.rule_logic.specs.LogicFormulas.{covers_logic, is_unary, is_binary, logic_formula, flag_formula, fa_formula};
 
@@ -16,7 +16,7 @@ use crate::reduction::{
     flag_term, logic_and_term, logic_or_term, reduce_and_term, reduce_or_term, reduce_xor_term,
 };
 use cif_bits::NoMemory;
-use cif_cells::{Cell, Kind, Param, table};
+use cif_kinds::{Cell, Kind, Param, table};
 use cif_term::{Shadow, Term};
 use std::alloc::Global;
 use std::marker::Model;
@@ -78,7 +78,7 @@ fn fa_term(alloc: Global, output: u32) -> Result<Term, NoMemory>
 
 /// The term of the taint of output `output`.
 #[tactic(auto, unfolding(crate::specs::LogicFormulas::logic_by))]
-pub fn logic_term(alloc: Global, cell: &Cell, output: u32) -> Result<Term, NoMemory>
+fn logic_term(alloc: Global, cell: &Cell, output: u32) -> Result<Term, NoMemory>
     requires covered { covers_logic cell.now.kind ≡ true }
     requires fitted { IsFitted cell.now }
     ensures { IfOk result (λ t. formula_of t ≡ logic_formula cell.now output) }
@@ -100,26 +100,12 @@ pub fn logic_term(alloc: Global, cell: &Cell, output: u32) -> Result<Term, NoMem
         Kind::Concat => Ok(Term::join(alloc, Term::Taint(0), Term::Taint(1))?),
         Kind::Slice => Ok(slice_term(alloc, cell)?),
         Kind::Fa => Ok(fa_term(alloc, output)?),
-        _ => Ok(Term::Taint(0)),
+        _ => unreachable!(),
     }
-}
-
-/// The terms of all outputs, in the order of the table of kinds.
-pub fn all_terms(alloc: Global, cell: &Cell) -> Result<Vec<Term>, NoMemory>
-    requires covered { covers_logic cell.now.kind ≡ true }
-    requires fitted { IsFitted cell.now }
-    ensures { IfOk result (λ ts. AreTaintsOf cell.now (map formula_of ts.items)) }
-{
-    let count = table::outputs(cell.kind()).len() as u32;
-    let mut terms = Vec::with_capacity(alloc, count as usize)?;
-    for output in 0..count {
-        let term = logic_term(alloc, cell, output)?;
-        terms.push(term)?;
-    }
-    Ok(terms)
 }
 
 /// The shadow logic of a cell of a bitwise, reducing or wiring kind: a term for each output.
+#[derive(Drop)]
 pub struct LogicShadow<'a> {
     cell: &'a Cell,
 }
@@ -152,6 +138,8 @@ impl<'a> Shadow for LogicShadow<'a> {
     ghost widths = { operand_widths };
 
     ghost count = { λ c. length (outputs_of c.kind) };
+
+    ghost formula = { logic_formula };
 
     ghost meant = { taint_word };
 

@@ -13,7 +13,7 @@ use Rattle.rule_select.proofs.MoveBits.{gain, kept_bit, left_more, left_none, lo
 use Rattle.rule_select.proofs.MoveReads.{left_place}
 use Rattle.rule_select.proofs.MoveTrees.{move_tree, place_by}
 use Rattle.rule_select.proofs.ShiftBits.{moved_by}
-use Rattle.rule_select.proofs.Trees.{tree_bit}
+use Rattle.rule_select.proofs.TreeLaws.{tree_bit}
 
 -- ---- halves
 

@@ -6,16 +6,16 @@ use Rattle.cif_defs.specs.Words.{Word, bit, number, operand, word, zeros}
 use Rattle.cif_defs.proofs.Numbers.{word-same}
 use Rattle.cif_defs.proofs.WordLaws.{length-word}
 use Rattle.cif_term.specs.Formulas.{Bound, Const, Taint, Value, IsFormed, value_of}
-use Rattle.cif_term.proofs.Forms.{formed_bound, formed_const, formed_taint, formed_value, raised}
+use Rattle.cif_term.proofs.FormedFormulas.{formed_bound, formed_const, formed_taint, formed_value, raised}
 use Rattle.rule_select.specs.declared.moves.Moves.TheVariants.{Blocks, Halves}
 use Rattle.rule_select.specs.Selections.{bmux_formula, demux_formula, lut_formula}
 use Rattle.rule_select.proofs.BlockBits.{block_bits, half_bits}
 use Rattle.rule_select.proofs.BlockTrees.{block_moving, half_is, half_moving, halved, scaled_most, scaled_some, twice}
 use Rattle.rule_select.proofs.Leaves.{extended_leaf, leaf_ignores, value-plain, value-plain_taint}
 use Rattle.rule_select.proofs.MoveTrees.{move_tree, moving_formed, moving_tree}
-use Rattle.rule_select.proofs.Operands.{operand_by}
-use Rattle.rule_select.proofs.Tests.{never_differs}
-use Rattle.rule_select.proofs.Trees.{Tree, differs, formed_tree, stages_cost, tree_bit, value-tree}
+use Rattle.rule_select.proofs.SelectOperands.{operand_by}
+use Rattle.rule_select.proofs.DifferTests.{never_differs}
+use Rattle.rule_select.proofs.TreeLaws.{Tree, differs, formed_tree, stages_cost, tree_bit, value-tree}
 
 -- ---- halves
 

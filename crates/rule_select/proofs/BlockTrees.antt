@@ -11,8 +11,8 @@ use Rattle.rule_select.specs.declared.moves.Moves.TheVariants.{Blocks, Halves}
 use Rattle.rule_select.specs.Moves.{lower_half, order_by, parts_by, upper_half}
 use Rattle.rule_select.proofs.MoveReads.{left_at, left_place, left_under}
 use Rattle.rule_select.proofs.MoveTrees.{IsMoving, place_by}
-use Rattle.rule_select.proofs.Places.{Reads, reads_run, reads_window}
-use Rattle.rule_select.proofs.Windows.{IsWindow, formed_places, picked-from}
+use Rattle.rule_select.proofs.PlacedParts.{Reads, reads_run, reads_window}
+use Rattle.rule_select.proofs.WindowLaws.{IsWindow, formed_places, picked-from}
 
 -- a part that reads as at other widths that are the same
 reads_at : (part : Formula → Formula) (w w' n n' : ℕ) (place : ℕ → ℕ) → w ≡ w' → n ≡ n' → Reads part w n place → Reads part w' n' place

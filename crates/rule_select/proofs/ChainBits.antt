@@ -10,7 +10,7 @@ use Rattle.cif_defs.proofs.WordLaws.{le_or_lt}
 use Rattle.rule_select.specs.declared.moves.Moves.TheVariants.{Chain}
 use Rattle.rule_select.specs.Moves.{order_by, parts_by}
 use Rattle.rule_select.proofs.Leaves.{extended_leaf}
-use Rattle.rule_select.proofs.Trees.{Tree, tree_bit}
+use Rattle.rule_select.proofs.TreeLaws.{Tree, tree_bit}
 
 -- ---- the tree
 

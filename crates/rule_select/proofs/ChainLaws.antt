@@ -15,21 +15,21 @@ use Rattle.cif_defs.proofs.Numbers.{word-same}
 use Rattle.cif_defs.proofs.WordLaws.{bit-word}
 use Rattle.cif_term.specs.Formulas.{Bound, Formula, IsFormed, value_of}
 use Rattle.cif_term.specs.CellTaints.{AreTaintsOf}
-use Rattle.cif_term.proofs.Forms.{formed_bound, formed_join, formed_let, formed_taint, formed_value, pieces_narrow, raised}
+use Rattle.cif_term.proofs.FormedFormulas.{formed_bound, formed_join, formed_let, formed_taint, formed_value, pieces_narrow, raised}
 use Rattle.rule_select.specs.declared.moves.Moves.TheVariants.{Chain}
 use Rattle.rule_select.specs.Moves.{block_of, order_by, parts_by}
 use Rattle.rule_select.specs.Offsets.{pair_of, pair_taint, pair_value}
 use Rattle.rule_select.specs.Chains.{cell_pmux, chain_group, chain_groups, group_size, pmux_formula}
-use Rattle.rule_select.proofs.CellFormulas.{taints_from}
+use Rattle.rule_select.proofs.SingleOutputs.{taints_from}
 use Rattle.rule_select.proofs.ChainBits.{chain_all, chain_tree}
-use Rattle.rule_select.proofs.ChoiceLaws.{bit_differs, reads_other}
+use Rattle.rule_select.proofs.ChoiceTaints.{bit_differs, reads_other}
 use Rattle.rule_select.proofs.Leaves.{extended_leaf, leaf_ignores, value-plain, value-plain_taint}
-use Rattle.rule_select.proofs.Operands.{operand_by}
-use Rattle.rule_select.proofs.Pairs.{formed_pair, value-high, value-low, value-pair}
+use Rattle.rule_select.proofs.SelectOperands.{operand_by}
+use Rattle.rule_select.proofs.SideBySide.{formed_pair, value-high, value-low, value-pair}
 use Rattle.rule_select.proofs.SelectionCells.{pmux_cell, pmux_output, pmux_widths}
-use Rattle.rule_select.proofs.ShiftLaws.{even_cost}
-use Rattle.rule_select.proofs.Trees.{IsFormedTree, IsPart, IsTree, Tree, differs, formed_staged, stages_cost, tree_bit, value-staged}
-use Rattle.rule_select.proofs.Windows.{formed_places, picked-from}
+use Rattle.rule_select.proofs.ShiftTaints.{even_cost}
+use Rattle.rule_select.proofs.TreeLaws.{IsFormedTree, IsPart, IsTree, Tree, differs, formed_staged, stages_cost, tree_bit, value-staged}
+use Rattle.rule_select.proofs.WindowLaws.{formed_places, picked-from}
 
 -- ---- the parts
 

@@ -4,7 +4,7 @@ use Rattle.std.proofs.Common.{arith}
 use Rattle.cif_defs.specs.Words.{Word, bit, word, xor}
 use Rattle.cif_term.specs.declared.ops.Op2.TheVariants.{Or, Xor}
 use Rattle.cif_term.specs.Formulas.{Formula, Two, Choose, IsFormed, value_of, pieces}
-use Rattle.cif_term.proofs.Forms.{formed_choose, formed_two, raised}
+use Rattle.cif_term.proofs.FormedFormulas.{formed_choose, formed_two, raised}
 use Rattle.cif_term.proofs.Values.{value-choose, value-or, value-xor}
 use Rattle.rule_select.specs.Choices.{choice_taint, taint_choice}
 

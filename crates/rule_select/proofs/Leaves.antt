@@ -8,10 +8,10 @@ use Rattle.cif_defs.proofs.WordLaws.{le_or_lt}
 use Rattle.cif_term.specs.Formulas.{Taint, Value, value_of}
 use Rattle.cif_term.specs.Extended.{extended}
 use Rattle.cif_term.proofs.Values.{value-extended}
-use Rattle.rule_select.proofs.ChoiceLaws.{Ignores, bit_differs}
-use Rattle.rule_select.proofs.Operands.{word_of_bits}
-use Rattle.rule_select.proofs.Tests.{never_differs, same_differ}
-use Rattle.rule_select.proofs.Trees.{differs}
+use Rattle.rule_select.proofs.ChoiceTaints.{Ignores, bit_differs}
+use Rattle.rule_select.proofs.SelectOperands.{word_of_bits}
+use Rattle.rule_select.proofs.DifferTests.{never_differs, same_differ}
+use Rattle.rule_select.proofs.TreeLaws.{differs}
 
 -- the bits of operand p, extended
 abbrev pub extended_leaf : ℕ → Bool → ℕ → List Word → Bool

@@ -8,10 +8,10 @@ use Rattle.std.proofs.lemmas.List.Folds.{list_all-map}
 use Rattle.std.proofs.lemmas.List.FromFn.{fill_by_all, length-map-range_with_len, get_or-map-range_with_len}
 use Rattle.cif_defs.specs.Words.{Word, bit, word}
 use Rattle.cif_term.specs.Formulas.{picked, value_of}
-use Rattle.cif_term.proofs.Forms.{formed_pick}
+use Rattle.cif_term.proofs.FormedFormulas.{formed_pick}
 use Rattle.rule_select.specs.Moves.{moved_left, moved_right, moved_signed, signed_places, step_of}
-use Rattle.rule_select.proofs.Places.{Reads, reads_window}
-use Rattle.rule_select.proofs.Windows.{IsWindow}
+use Rattle.rule_select.proofs.PlacedParts.{Reads, reads_window}
+use Rattle.rule_select.proofs.WindowLaws.{IsWindow}
 
 -- ---- to the left by p
 

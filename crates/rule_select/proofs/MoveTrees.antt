@@ -5,10 +5,10 @@ use Rattle.cif_defs.specs.Words.{Word, operand}
 use Rattle.rule_select.specs.Moves.{order_by, parts_by}
 use Rattle.rule_select.specs.declared.moves.Moves.{Moves}
 use Rattle.rule_select.specs.declared.moves.Moves.TheVariants.{Left, Rising, Right, Signed, Halves, Blocks, Chain}
-use Rattle.rule_select.proofs.ChoiceLaws.{Ignores}
+use Rattle.rule_select.proofs.ChoiceTaints.{Ignores}
 use Rattle.rule_select.proofs.MoveReads.{left_place, left_reads, right_reads, signed_reads}
-use Rattle.rule_select.proofs.Places.{Reads, moved_bit, moved_ignores, reads_all, reads_taint, reads_value}
-use Rattle.rule_select.proofs.Trees.{IsFormedTree, IsPart, IsTree, Tree}
+use Rattle.rule_select.proofs.PlacedParts.{Reads, moved_bit, moved_ignores, reads_all, reads_taint, reads_value}
+use Rattle.rule_select.proofs.TreeLaws.{IsFormedTree, IsPart, IsTree, Tree}
 
 -- the places that the part for select bit k at 0 or at 1 reads
 unfoldable pub place_by : Moves → ℕ → Bool → ℕ → ℕ

@@ -15,12 +15,12 @@ use Rattle.cif_defs.specs.Weights.{weight, weight_by}
 use Rattle.cif_defs.proofs.WordLaws.{bit-word}
 use Rattle.cif_term.specs.Formulas.{IsFormed, Value, Taint, cost_of, pieces, value_of}
 use Rattle.cif_term.specs.CellTaints.{AreTaintsOf, IsTaintOf, output_width}
-use Rattle.cif_term.proofs.Forms.{formed_value, formed_taint, pieces_narrow}
-use Rattle.cif_term.proofs.CellTaints.{one_output}
+use Rattle.cif_term.proofs.FormedFormulas.{formed_value, formed_taint, pieces_narrow}
+use Rattle.cif_term.proofs.ExactTaintWords.{one_output}
 use Rattle.rule_select.specs.Choices.{choice_taint}
 use Rattle.rule_select.specs.Mux.{mux_formula}
-use Rattle.rule_select.proofs.Operands.{operand_by, taint_by_bits, word_of_bits}
-use Rattle.rule_select.proofs.ChoiceLaws.{IsChoice, bit_differs, choice_differs, reads_other}
+use Rattle.rule_select.proofs.SelectOperands.{operand_by, taint_by_bits, word_of_bits}
+use Rattle.rule_select.proofs.ChoiceTaints.{IsChoice, bit_differs, choice_differs, reads_other}
 use Rattle.rule_select.proofs.ChoiceTerms.{value-taint_choice, formed_taint_choice}
 
 -- ---- the cell

@@ -11,10 +11,10 @@ use Rattle.cif_defs.proofs.WordLaws.{bit-word, le_or_lt, past_word}
 use Rattle.rule_select.proofs.Leaves.{extended_leaf}
 use Rattle.rule_select.proofs.MoveBits.{gain, low_below, low_number}
 use Rattle.rule_select.proofs.OffsetLaws.{far_tree, near_tree, two_way_bit}
-use Rattle.rule_select.proofs.Places.{bit_within}
+use Rattle.rule_select.proofs.PlacedParts.{bit_within}
 use Rattle.rule_select.proofs.RisingBits.{rising_bits}
 use Rattle.rule_select.proofs.ShiftBits.{moved_by, right_bits}
-use Rattle.rule_select.proofs.Trees.{tree_bit}
+use Rattle.rule_select.proofs.TreeLaws.{tree_bit}
 
 -- ---- places
 

@@ -13,14 +13,14 @@ use Rattle.cif_term.specs.Formulas.{pieces}
 use Rattle.cif_term.specs.CellTaints.{AreTaintsOf}
 use Rattle.rule_select.specs.declared.moves.Moves.TheVariants.{Right}
 use Rattle.rule_select.specs.Offsets.{offset_formula, shift_offset, shiftx_offset, two_way_formula}
-use Rattle.rule_select.proofs.CellFormulas.{taints_from}
+use Rattle.rule_select.proofs.SingleOutputs.{taints_from}
 use Rattle.rule_select.proofs.MoveTrees.{right_moving}
 use Rattle.rule_select.proofs.OffsetBits.{shiftx_is, signed_is, unsigned_is}
 use Rattle.rule_select.proofs.OffsetLaws.{two_way_bit, two_way_formed, two_way_value}
-use Rattle.rule_select.proofs.Operands.{operand_by}
+use Rattle.rule_select.proofs.SelectOperands.{operand_by}
 use Rattle.rule_select.proofs.ShiftCells.{IsShiftCell, shift_cell, shiftx_cell}
 use Rattle.rule_select.proofs.ShiftKinds.{right_gives}
-use Rattle.rule_select.proofs.ShiftLaws.{shift_taints}
+use Rattle.rule_select.proofs.ShiftTaints.{shift_taints}
 
 -- the cell gives the row of $shift, with A as `signed` says
 abbrev pub GivesShift : Cell → Bool → Type 0

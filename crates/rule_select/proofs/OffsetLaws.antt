@@ -4,23 +4,23 @@ use Rattle.std.proofs.Common.{arith}
 use Rattle.cif_defs.specs.Words.{Word, operand, word}
 use Rattle.cif_term.specs.Formulas.{Bound, Taint, Value, IsFormed, pieces, value_of}
 use Rattle.cif_term.specs.Extended.{extended}
-use Rattle.cif_term.proofs.Forms.{formed_bound, formed_extended, formed_let, formed_taint, formed_value, pieces_narrow, raised}
+use Rattle.cif_term.proofs.FormedFormulas.{formed_bound, formed_extended, formed_let, formed_taint, formed_value, pieces_narrow, raised}
 use Rattle.cif_term.proofs.Values.{value-extended}
 use Rattle.rule_select.specs.declared.moves.Moves.TheVariants.{Right, Rising}
 use Rattle.rule_select.specs.Moves.{moved_left, order_by}
 use Rattle.rule_select.specs.Offsets.{far_pair, near_pair, pair_of, pair_taint, pair_value, two_way_formula}
-use Rattle.rule_select.proofs.ChoiceLaws.{Ignores}
+use Rattle.rule_select.proofs.ChoiceTaints.{Ignores}
 use Rattle.rule_select.proofs.ChoiceTerms.{formed_taint_choice}
 use Rattle.rule_select.proofs.Leaves.{extended_leaf, leaf_ignores, value-leaf_taint}
 use Rattle.rule_select.proofs.MoveReads.{left_place, left_reads}
 use Rattle.rule_select.proofs.MoveTrees.{move_tree, moving_formed, moving_tree, right_moving, rising_moving}
-use Rattle.rule_select.proofs.Operands.{operand_by}
-use Rattle.rule_select.proofs.Pairs.{formed_pair, value-high, value-low, value-pair}
-use Rattle.rule_select.proofs.Places.{moved_ignores, reads_taint, reads_value}
+use Rattle.rule_select.proofs.SelectOperands.{operand_by}
+use Rattle.rule_select.proofs.SideBySide.{formed_pair, value-high, value-low, value-pair}
+use Rattle.rule_select.proofs.PlacedParts.{moved_ignores, reads_taint, reads_value}
 use Rattle.rule_select.proofs.RisingBits.{raised_leaf}
-use Rattle.rule_select.proofs.ShiftLaws.{even_cost}
-use Rattle.rule_select.proofs.Trees.{IsTree, Tree, chosen_bit, differs, stages_cost, formed_bit, formed_bit_taint, formed_tree, taint-chosen, tree_bit, tree_ignores, value-tree}
-use Rattle.rule_select.proofs.Windows.{formed_places}
+use Rattle.rule_select.proofs.ShiftTaints.{even_cost}
+use Rattle.rule_select.proofs.TreeLaws.{IsTree, Tree, chosen_bit, differs, stages_cost, formed_bit, formed_bit_taint, formed_tree, taint-chosen, tree_bit, tree_ignores, value-tree}
+use Rattle.rule_select.proofs.WindowLaws.{formed_places}
 
 abbrev pub near_tree : ℕ → Bool → ℕ → Tree
 near_tree w signed m = move_tree (Right w) 1 m (λ j. w) (extended_leaf 0 signed)

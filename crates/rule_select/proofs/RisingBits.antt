@@ -8,9 +8,9 @@ use Rattle.rule_select.specs.declared.moves.Moves.TheVariants.{Rising}
 use Rattle.rule_select.proofs.MoveBits.{gain, left_step, low_below, low_number}
 use Rattle.rule_select.proofs.MoveReads.{left_place}
 use Rattle.rule_select.proofs.MoveTrees.{move_tree, place_by}
-use Rattle.rule_select.proofs.Places.{moved_bit}
+use Rattle.rule_select.proofs.PlacedParts.{moved_bit}
 use Rattle.rule_select.proofs.ShiftBits.{left_none, moved_by}
-use Rattle.rule_select.proofs.Trees.{tree_bit}
+use Rattle.rule_select.proofs.TreeLaws.{tree_bit}
 
 -- one place to the left
 abbrev pub raised_leaf : ℕ → (ℕ → List Word → Bool) → ℕ → List Word → Bool

@@ -1,6 +1,7 @@
 -- The formula of each kind that selects computes the exact taint.
-use Rattle.std.specs.Prelude.{ℕ, zero, suc, ◌<◌, ◌≡◌, true, List, [], ◌∷◌, length, refl}
-use Rattle.std.proofs.Common.{arith, sym, ap, subst, ◌∙◌}
+use Rattle.std.specs.Prelude.{ℕ, ◌<◌, ◌≡◌, true, List, [], ◌∷◌, map, length, refl}
+use Rattle.std.specs.List.{range_with_len}
+use Rattle.std.proofs.Common.{sym, ap, subst}
 use Rattle.cif_defs.specs.declared.kinds.Kind.{Kind}
 use Rattle.cif_defs.specs.declared.kinds.Kind.TheVariants.{Mux, Shl, Sshl, Shr, Sshr, Shift, Shiftx, Bmux, Demux, Lut, Pmux}
 use Rattle.cif_defs.specs.Cells.{Cell}
@@ -8,6 +9,9 @@ use Rattle.cif_defs.specs.Table.{outputs_of}
 use Rattle.cif_defs.specs.Fitted.{IsFitted}
 use Rattle.cif_term.specs.Formulas.{Formula}
 use Rattle.cif_term.specs.CellTaints.{AreTaintsOf, IsTaintOf}
+use Rattle.cif_term.specs.TermView.{formula_of}
+use Rattle.cif_term.specs.declared.term.Term.{Term}
+use Rattle.cif_term.proofs.OutputTerms.{formulas_of, single_formula, term_is_taint}
 use Rattle.rule_select.specs.Selects.{is_select, formula_by, select_formula}
 use Rattle.rule_select.specs.Mux.{mux_formula}
 use Rattle.rule_select.proofs.MuxLaws.{mux_taints}
@@ -57,16 +61,18 @@ one_by _ h = absurd (cc)
 pub one_port : (c : Cell) → is_select c.kind ≡ true → length (outputs_of c.kind) ≡ 1
 one_port c h = one_by c.kind h
 
-at_zero : (c : Cell) (p : ℕ) → IsFitted c → is_select c.kind ≡ true → p < 1 → IsTaintOf c p (select_formula c)
-at_zero c zero f h l = (select_taints c f h).each 0 (omega arith)
-at_zero c (suc p) f h l = absurd (omega arith)
-
 -- the formula serves each output, of which there is one
-pub taint_at : (c : Cell) (p : ℕ) (f : Formula) → IsFitted c → is_select c.kind ≡ true → p < length (outputs_of c.kind) → f ≡ select_formula c → IsTaintOf c p f
-taint_at c p f fits h l e = let one : length (outputs_of c.kind) ≡ 1 = one_port c h in subst (λ g. IsTaintOf c p g) (sym e) (at_zero c p fits h (omega arith))
+by_output : (c : Cell) → IsFitted c → is_select c.kind ≡ true → AreTaintsOf c (formulas_of c (λ p. select_formula c))
+by_output c f h = single_formula c (λ p. select_formula c) (one_port c h) (select_taints c f h)
 
-pub taints_are : (c : Cell) (f : Formula) (fs : List Formula) → IsFitted c → is_select c.kind ≡ true → f ≡ select_formula c → fs ≡ f ∷ [] → AreTaintsOf c fs
-taints_are c f fs fits h e g = subst (λ (gs : List Formula). AreTaintsOf c gs) (sym (g ∙ ap (λ x. x ∷ []) e)) (select_taints c fits h)
+pub select_term_is : (c d : Cell) (p : ℕ) (t : Term) → c ≡ d → is_select c.kind ≡ true → IsFitted c → p < length (outputs_of d.kind) → formula_of t ≡ select_formula c → IsTaintOf d p (formula_of t)
+select_term_is c d p t e h f l g = term_is_taint c d (λ q. select_formula c) p t e (by_output c f h) l g
+
+-- d is the cell by another name
+pub select_terms_are : (c d : Cell) (fs : List Formula) → d ≡ c → is_select c.kind ≡ true → IsFitted c → fs ≡ map (λ p. select_formula d) (range_with_len 0 (length (outputs_of d.kind))) → AreTaintsOf c fs
+select_terms_are c d fs q h f e =
+    let own : fs ≡ map (λ p. select_formula c) (range_with_len 0 (length (outputs_of c.kind))) = subst (λ (x : Cell). fs ≡ map (λ p. select_formula x) (range_with_len 0 (length (outputs_of x.kind)))) q e in
+    subst (λ (gs : List Formula). AreTaintsOf c gs) (sym own) (by_output c f h)
 
 -- ---- which formula stands for a kind
 

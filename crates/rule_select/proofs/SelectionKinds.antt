@@ -19,11 +19,11 @@ use Rattle.cif_defs.proofs.WordLaws.{bit-word, le_or_lt}
 use Rattle.cif_term.specs.CellTaints.{AreTaintsOf}
 use Rattle.rule_select.specs.Selections.{cell_bmux, cell_demux, cell_lut}
 use Rattle.rule_select.proofs.BlockLaws.{block_all, block_tree, bmux_formed, bmux_value, demux_formed, demux_value, half_all, half_tree, lut_formed, lut_value, table_leaf}
-use Rattle.rule_select.proofs.CellFormulas.{taints_from}
+use Rattle.rule_select.proofs.SingleOutputs.{taints_from}
 use Rattle.rule_select.proofs.Leaves.{extended_leaf}
-use Rattle.rule_select.proofs.Operands.{operand_by}
+use Rattle.rule_select.proofs.SelectOperands.{operand_by}
 use Rattle.rule_select.proofs.SelectionCells.{bmux_cell, bmux_output, bmux_widths, demux_cell, demux_output, demux_widths, lut_cell, lut_output, lut_widths}
-use Rattle.rule_select.proofs.Trees.{tree_bit}
+use Rattle.rule_select.proofs.TreeLaws.{tree_bit}
 
 -- ---- $bmux
 

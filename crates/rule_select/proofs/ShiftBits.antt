@@ -7,7 +7,7 @@ use Rattle.rule_select.specs.Moves.{order_by}
 use Rattle.rule_select.specs.declared.moves.Moves.TheVariants.{Left, Right, Signed}
 use Rattle.rule_select.proofs.MoveBits.{left_step, low_number, right_step, signed_step}
 use Rattle.rule_select.proofs.MoveTrees.{move_tree, place_by}
-use Rattle.rule_select.proofs.Trees.{tree_bit}
+use Rattle.rule_select.proofs.TreeLaws.{tree_bit}
 
 -- how far the lowest j bits of B move
 abbrev pub moved_by : List Word → ℕ → ℕ

@@ -13,16 +13,16 @@ use Rattle.cif_defs.specs.Fitted.{IsFitted}
 use Rattle.cif_defs.specs.Weights.{weight, weight_by}
 use Rattle.cif_defs.proofs.WordLaws.{bit-word, le_or_lt}
 use Rattle.cif_term.specs.CellTaints.{AreTaintsOf}
-use Rattle.cif_term.proofs.Forms.{pieces_narrow}
+use Rattle.cif_term.proofs.FormedFormulas.{pieces_narrow}
 use Rattle.rule_select.specs.declared.moves.Moves.TheVariants.{Right, Signed}
 use Rattle.rule_select.specs.Shifts.{cell_shift, left_moves, right_moves, right_width, signed_moves}
 use Rattle.rule_select.proofs.Leaves.{extended_leaf}
 use Rattle.rule_select.proofs.MoveTrees.{left_moving, right_moving, signed_moving}
-use Rattle.rule_select.proofs.Operands.{operand_by}
-use Rattle.rule_select.proofs.Places.{bit_within}
+use Rattle.rule_select.proofs.SelectOperands.{operand_by}
+use Rattle.rule_select.proofs.PlacedParts.{bit_within}
 use Rattle.rule_select.proofs.ShiftBits.{left_bits, moved_by, right_bits, signed_bits}
 use Rattle.rule_select.proofs.ShiftCells.{IsShiftCell, shl_cell, shr_cell, sshl_cell, sshr_cell}
-use Rattle.rule_select.proofs.ShiftLaws.{shift_bit, shift_taints}
+use Rattle.rule_select.proofs.ShiftTaints.{shift_bit, shift_taints}
 
 -- all bits of B
 all_bits : (us : List Word) (b : ℕ) → length (operand us 1) ≡ b → moved_by us b ≡ number (operand us 1)

@@ -8,8 +8,8 @@ use crate::offsets::{pair, taint_of_pair, value_of_pair};
 use crate::shifts::width_by;
 use crate::tree::staged_term;
 use cif_bits::NoMemory;
-use cif_cells::Cell;
 use cif_defs::Param;
+use cif_kinds::Cell;
 use cif_term::Term;
 use std::alloc::Global;
 

@@ -21,9 +21,9 @@ ghost use Rattle.cif_term.specs.TermView.{formula_of};
 ghost use Rattle.rule_select.specs.Selects.{is_select};
 
 use cif_bits::NoMemory;
-use cif_cells::Cell;
 use cif_defs::Kind;
-use cif_term::Term;
+use cif_kinds::Cell;
+use cif_term::{Term, all_terms};
 pub use shadow::SelectShadow;
 use std::alloc::Global;
 
@@ -54,6 +54,5 @@ pub fn taint_terms(alloc: Global, cell: &Cell) -> Result<Vec<Term>, NoMemory>
     requires fitted { IsFitted cell.now }
     ensures { IfOk result (λ ts. AreTaintsOf cell.now (map formula_of ts.items)) }
 {
-    let term = shadow::select_term(alloc, cell)?;
-    Ok(shadow::single(alloc, term)?)
+    Ok(all_terms(alloc, &SelectShadow::of(cell))?)
 }

@@ -82,7 +82,7 @@ fn window_term(
 }
 
 /// How far select bit `select` moves a word of `width` bits.
-#[tactic(auto, using(crate::proofs::Steps::past_step))]
+#[tactic(auto, using(crate::proofs::StageSteps::past_step))]
 fn step(width: u32, select: u32) -> u32
     requires { width ≤ 65536 }
     ensures { result ≡ step_of width select }

@@ -12,8 +12,8 @@ use crate::moves::{Moves, left, places};
 use crate::shifts::{is_signed, moved, width_by};
 use crate::tree::{bit_of, taint_of_bit, tree_term};
 use cif_bits::NoMemory;
-use cif_cells::Cell;
 use cif_defs::Param;
+use cif_kinds::Cell;
 use cif_term::{Op2, Term};
 use std::alloc::Global;
 

@@ -10,8 +10,8 @@ use crate::moves::Moves;
 use crate::shifts::width_by;
 use crate::tree::tree_term;
 use cif_bits::{Bits, NoMemory};
-use cif_cells::Cell;
 use cif_defs::Param;
+use cif_kinds::Cell;
 use cif_term::Term;
 use std::alloc::Global;
 

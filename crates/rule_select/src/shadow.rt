@@ -14,14 +14,14 @@ use crate::offsets::{either_shift_term, indexed_term};
 use crate::selections::{bmux_term, demux_term, lut_term};
 use crate::shifts::{left_term, right_term, signed_term};
 use cif_bits::NoMemory;
-use cif_cells::Cell;
 use cif_defs::Kind;
+use cif_kinds::Cell;
 use cif_term::{Shadow, Term};
 use std::alloc::Global;
 use std::marker::Model;
 
 /// The term of the one output of a cell.
-pub fn select_term(alloc: Global, cell: &Cell) -> Result<Term, NoMemory>
+fn select_term(alloc: Global, cell: &Cell) -> Result<Term, NoMemory>
     requires covered { is_select cell.now.kind ≡ true }
     requires fitted { IsFitted cell.now }
     ensures { IfOk result (λ t. formula_of t ≡ select_formula cell.now) }
@@ -38,23 +38,12 @@ pub fn select_term(alloc: Global, cell: &Cell) -> Result<Term, NoMemory>
         Kind::Lut => Ok(lut_term(alloc, cell)?),
         Kind::Pmux => Ok(pmux_term(alloc, cell)?),
         Kind::Mux => Ok(mux_term(alloc)?),
-        // no other kind is covered
-        _ => Err(NoMemory),
+        _ => unreachable!(),
     }
-}
-
-/// A list of one term.
-pub fn single(alloc: Global, term: Term) -> Result<Vec<Term>, NoMemory>
-    ensures { IfOk result (λ ts. ts.items ≡ term ∷ []) }
-{
-    let mut terms = Vec::with_capacity(alloc, 1)?;
-    if terms.push(term).is_err() {
-        return Err(NoMemory);
-    }
-    Ok(terms)
 }
 
 /// The shadow logic of a cell that selects: a term for its output.
+#[derive(Drop)]
 pub struct SelectShadow<'a> {
     cell: &'a Cell,
 }
@@ -87,6 +76,8 @@ impl<'a> Shadow for SelectShadow<'a> {
     ghost widths = { operand_widths };
 
     ghost count = { λ c. length (outputs_of c.kind) };
+
+    ghost formula = { λ c _. select_formula c };
 
     ghost meant = { taint_word };
 

@@ -9,8 +9,8 @@ ghost use Rattle.rule_select.specs.Shifts.{shift_formula, cell_shift, left_moves
 use crate::moves::{Moves, places};
 use crate::tree::tree_term;
 use cif_bits::NoMemory;
-use cif_cells::Cell;
 use cif_defs::Param;
+use cif_kinds::Cell;
 use cif_term::Term;
 use std::alloc::Global;
 

@@ -88,7 +88,7 @@ fn stage_term(
 }
 
 /// Stages `from` to `from + len` of `count`, and then `body`.
-#[tactic(auto, using(crate::proofs::Steps::fits_before))]
+#[tactic(auto, using(crate::proofs::StageSteps::fits_before))]
 pub fn staged_term(
     alloc: Global,
     moves: Moves,

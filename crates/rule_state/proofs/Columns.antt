@@ -6,7 +6,7 @@ use Rattle.cif_defs.specs.Completions.{can_differ}
 use Rattle.cif_defs.specs.Words.{Word, bit, operand}
 use Rattle.cif_defs.proofs.Differ.{CanDiffer-from_test, test_from-CanDiffer}
 use Rattle.cif_defs.proofs.Exact.{SameShape, bits_can_differ, bits_from_can_differ, can_differ_from_bits, column}
-use Rattle.cif_term.proofs.CellTaints.{same_tests}
+use Rattle.cif_term.proofs.ExactTaintWords.{same_tests}
 
 -- the bits at these places, one of each operand
 abbrev pub bits_at : List ℕ → List Word → List Bool

@@ -1,10 +1,9 @@
-pub mod Words
+pub mod BitWords
 pub mod BitChoices
 pub mod Columns
 pub mod RegisterBits
 pub mod MarkValues
 pub mod RegisterRows
 pub mod RegisterLaws
-pub mod RegisterCells
-pub mod MemoryWords
+pub mod StoredTaintWords
 pub mod MemoryLaws

@@ -8,9 +8,9 @@ use Rattle.cif_defs.proofs.WordLaws.{bit-word, length-word}
 use Rattle.cif_term.specs.declared.ops.Op1.TheVariants.{Not}
 use Rattle.cif_term.specs.declared.ops.Op2.TheVariants.{Or, Xor}
 use Rattle.cif_term.specs.Formulas.{Formula, Value, Taint, Const, Bound, One, Two, Choose, IsFormed, pieces, value_of}
-use Rattle.cif_term.proofs.Forms.{formed_bound, formed_choose, formed_const, formed_let, formed_one, formed_taint, formed_two, formed_value, pieces_narrow, raised}
+use Rattle.cif_term.proofs.FormedFormulas.{formed_bound, formed_choose, formed_const, formed_let, formed_one, formed_taint, formed_two, formed_value, pieces_narrow, raised}
 use Rattle.cif_term.proofs.Values.{value-choose, value-or, value-xor}
-use Rattle.rule_state.proofs.Words.{word_of_bits}
+use Rattle.rule_state.proofs.BitWords.{word_of_bits}
 use Rattle.rule_state.specs.Marks.{Marked, chosen_mark, control_mark, fixed_mark, operand_mark}
 use Rattle.rule_state.proofs.BitChoices.{choice_taint, depends}
 

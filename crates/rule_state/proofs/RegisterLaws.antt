@@ -6,21 +6,20 @@ use Rattle.cif_defs.specs.declared.kinds.Kind.TheVariants.{Dff, Dffe, Sdff, Sdff
 use Rattle.cif_defs.specs.declared.kinds.Role.TheVariants.{ResetRegister}
 use Rattle.cif_defs.specs.declared.kinds.Param.{Param}
 use Rattle.cif_defs.specs.declared.kinds.Param.TheVariants.{EnPolarity, SrstPolarity, SrstValue, ArstPolarity, ArstValue}
-use Rattle.cif_defs.specs.Kinds.{role_of}
+use Rattle.cif_defs.specs.Kinds.{is_register, role_of}
 use Rattle.cif_defs.specs.Cells.{Cell, digits_of, next_by, next_word, number_of, width}
 use Rattle.cif_defs.specs.Fitted.{IsFitted, operand_widths, row_width}
 use Rattle.cif_defs.specs.Table.{operands_of}
 use Rattle.cif_defs.specs.Taint.{next_register_taint}
 use Rattle.cif_defs.specs.Words.{Word, bit, operand}
 use Rattle.cif_defs.proofs.Numbers.{word-same}
-use Rattle.cif_cells.specs.RegisterKinds.{is_register}
-use Rattle.cif_cells.proofs.RegisterCells.{IsRegisterWidth, register_width_fits}
+use Rattle.cif_kinds.proofs.RegisterCells.{IsRegisterWidth, register_width_fits}
 use Rattle.cif_term.specs.Formulas.{cost_of, value_of, width_of}
 use Rattle.rule_state.specs.Marks.{Marked, control_mark, fixed_mark, operand_mark}
 use Rattle.rule_state.specs.RegisterTerms.{enabled_mark, next_mark_by, reset_mark, shown_mark}
 use Rattle.rule_state.specs.RegisterTaints.{IsNextTaint, IsShownTaint}
 use Rattle.rule_state.proofs.MarkValues.{AreFormed, IsPlain, Stands, formed_chosen, formed_control, formed_fixed, formed_operand, stands_chosen, stands_control, stands_fixed, stands_operand}
-use Rattle.rule_state.proofs.Words.{one_word, two_words, three_words}
+use Rattle.rule_state.proofs.BitWords.{one_word, two_words, three_words}
 use Rattle.rule_state.proofs.RegisterBits.{enabled_taint, enabled_value, reset_taint, reset_value}
 use Rattle.rule_state.proofs.RegisterRows.{HasRow, dff_differs, dff_row, dffe_differs, dffe_row, enabling, resetting, sdff_differs, sdff_row, sdffce_differs, sdffce_row, sdffe_differs, sdffe_row, shown_differs}
 

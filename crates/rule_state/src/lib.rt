@@ -12,8 +12,6 @@
 mod marks;
 mod memory;
 mod registers;
-#[cfg(test)]
-mod tests;
 
 pub use memory::{WritePort, read_taint, write_flag, write_taint};
 pub use registers::{next_taint_term, show_taint_term};

@@ -7,7 +7,7 @@ ghost use Rattle.cif_defs.specs.Memory.{MemoryShape, read_taint as read_taint_of
 ghost use Rattle.rule_state.specs.MemoryTaints.{HasPortWidths, IsPortOf, may_write, port_sets_flag, taint_after_port, taint_of_read, taint_row};
 
 use cif_bits::{Bits, NoMemory};
-use cif_cells::{Cell, Param, Role};
+use cif_kinds::{Cell, Param, Role};
 use std::alloc::Global;
 
 /// What one write port of a memory has in a cycle: address, enables and data, each with its taint. There is one enable

@@ -1,11 +1,10 @@
 // Terms of the taint of registers.
 ghost use Rattle.std.specs.Prelude.{◌≡◌, ◌≤◌, true, IfOk};
-ghost use Rattle.cif_defs.specs.Kinds.{role_of};
+ghost use Rattle.cif_defs.specs.Kinds.{is_register, role_of};
 ghost use Rattle.cif_defs.specs.Words.{bit, word};
 ghost use Rattle.cif_defs.specs.Cells.{digits_of, number_of, width as width_of};
 ghost use Rattle.cif_defs.specs.Fitted.{IsFitted};
 ghost use Rattle.cif_defs.specs.declared.kinds.Role.TheVariants.{ResetRegister};
-ghost use Rattle.cif_cells.specs.RegisterKinds.{is_register};
 ghost use Rattle.cif_term.specs.TermView.{formula_of};
 ghost use Rattle.rule_state.specs.Marks.{fixed_mark, operand_mark};
 ghost use Rattle.rule_state.specs.MarkView.{mark_of};
@@ -14,7 +13,7 @@ ghost use Rattle.rule_state.specs.RegisterTaints.{IsNextTaint, IsShownTaint};
 
 use crate::marks::{Control, MarkedTerm, chosen_taint, chosen_value};
 use cif_bits::{Bits, NoMemory};
-use cif_cells::{Cell, Kind, Param};
+use cif_kinds::{Cell, Kind, Param};
 use cif_term::Term;
 use std::alloc::{AllocError, Global};
 

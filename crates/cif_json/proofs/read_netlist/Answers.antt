@@ -1,7 +1,7 @@
 use Rattle.std.proofs.lemmas.Result.{IfOk-weaker, IfErr-weaker}
 use Rattle.serde_json.specs.View.{view}
 use Rattle.cif_json.proofs.OrderedModule.{in_order}
-use Rattle.cif_json.proofs.Refusals.{refused}
+use Rattle.cif_json.proofs.RefusedBytes.{refused}
 use Rattle.cif_json.proofs.read_netlist.Goals as goal
 
 pub returns-clause-err : goal.returns-clause-err

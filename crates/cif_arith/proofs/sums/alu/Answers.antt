@@ -1,6 +1,6 @@
 use Rattle.std.proofs.Common.{ap, ◌∙◌, ◌+◌, ◌≡◌, ◌%◌, ◌^◌}
 use Rattle.cif_defs.specs.Words.{bit_value}
-use Rattle.cif_arith.specs.Numbers.{carries}
+use Rattle.cif_arith.specs.NumbersOfBits.{carries}
 use Rattle.cif_arith.proofs.Carries.{carries-bitwise}
 use Rattle.cif_arith.proofs.Residues.{carrying-sum}
 use Rattle.cif_arith.proofs.sums.alu.Goals as goal

@@ -1,6 +1,6 @@
 use Rattle.std.proofs.Common.{◌≡◌, ◌++◌, drop}
 use Rattle.cif_defs.specs.Accepted.{tables_of}
-use Rattle.cif_cells.specs.CellView.{digits_seen}
+use Rattle.cif_kinds.specs.CellView.{digits_seen}
 use Rattle.cif_cells.proofs.assemble.tables_given.Given as goal
 
 abbrev pub invariant-loop-param : goal.invariant-loop-param

@@ -1,4 +1,4 @@
-use Rattle.cif_cells.proofs.NetLaws.{numbers_increase}
+use Rattle.cif_nets.proofs.NetLaws.{numbers_increase}
 use Rattle.cif_cells.proofs.finding.wire_if.Goals as goal
 
 pub sources-requires-clause-rising : goal.sources-requires-clause-rising

@@ -5,7 +5,7 @@ use Rattle.cif_defs.specs.declared.nets.Wire.{Wire}
 use Rattle.cif_desk.specs.Shown.{AreInside}
 use Rattle.cif_seq.specs.Cases.{net_of}
 use Rattle.cif_desk.proofs.TextLaws.{flat_map_done}
-use Rattle.cif_desk.proofs.ShownLaws.{outputs_inside}
+use Rattle.cif_desk.proofs.ShownBits.{outputs_inside}
 use Rattle.cif_desk.proofs.evaluation.cycle_text.Goals as goal
 
 pub push_port-requires : goal.push_port-requires

@@ -3,7 +3,7 @@ use Rattle.std.proofs.lemmas.List.{get_or_default}
 use Rattle.cif_defs.specs.TaintRun.{taint}
 use Rattle.cif_defs.specs.declared.nets.Src.TheVariants.{Bit, Zero}
 use Rattle.cif_seq.specs.Cases.{net_of}
-use Rattle.cif_desk.proofs.ShownLaws.{taint_push, taints_done}
+use Rattle.cif_desk.proofs.ShownBits.{taint_push, taints_done}
 use Rattle.cif_desk.proofs.evaluation.push_taints.Goals as goal
 
 pub pair_of-pair-requires : goal.pair_of-pair-requires

@@ -1,5 +1,5 @@
 use Rattle.std.proofs.Common.{◌≡◌, ◌++◌, drop}
-use Rattle.cif_enumerate.specs.Places.{places_in}
+use Rattle.cif_enumerate.specs.TaintedPlaces.{places_in}
 use Rattle.cif_enumerate.proofs.places.push_places.Given as goal
 
 -- the places so far and those of the bits that are left are all

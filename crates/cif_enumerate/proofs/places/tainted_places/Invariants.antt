@@ -1,5 +1,5 @@
 use Rattle.std.proofs.Common.{◌≡◌, ◌++◌, drop}
-use Rattle.cif_enumerate.specs.Places.{places_from}
+use Rattle.cif_enumerate.specs.TaintedPlaces.{places_from}
 use Rattle.cif_enumerate.proofs.places.tainted_places.Given as goal
 
 -- the places so far and those of the words that are left are all

@@ -1,4 +1,4 @@
-use Rattle.cif_json.proofs.NumberLaws.{nonzero_float}
+use Rattle.cif_json.proofs.NonzeroNumbers.{nonzero_float}
 use Rattle.cif_json.proofs.scalar.is_other_than_zero.Goals as goal
 
 pub returns-in-Some-as_f64 : goal.returns-in-Some-as_f64

@@ -1,6 +1,6 @@
 use Rattle.std.proofs.Common.{◌≡◌, ◌∙◌, List, ap, sym, Ok, string_bytes}
 use Rattle.serde_json.specs.View.{view, members_view}
-use Rattle.cif_json.specs.Reading.{within, each}
+use Rattle.cif_json.specs.WrongPlace.{within, each}
 use Rattle.cif_json.proofs.Folds.{Entry, more_things, thing_step}
 use Rattle.cif_json.proofs.thing.read_each.Goals as goal
 

@@ -1,6 +1,6 @@
 use Rattle.std.proofs.Common.{◌≡◌}
 use Rattle.serde_json.specs.View.{members_view}
-use Rattle.cif_json.specs.Reading.{each}
+use Rattle.cif_json.specs.WrongPlace.{each}
 use Rattle.cif_json.proofs.Folds.{more_things}
 use Rattle.cif_json.proofs.thing.read_each.Given as goal
 

@@ -1,4 +1,4 @@
-use Rattle.cif_pages.proofs.Cuts.{equal_words, equal_full}
+use Rattle.cif_pages.proofs.PageCuts.{equal_words, equal_full}
 use Rattle.cif_pages.proofs.paged.equal_shelves.Goals as goal
 
 pub returns-clause-words : goal.returns-clause-words

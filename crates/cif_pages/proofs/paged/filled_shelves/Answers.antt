@@ -1,6 +1,6 @@
 use Rattle.std.proofs.Common.{◌∙◌, ap, arith}
 use Rattle.cif_pages.specs.Pages.{joined}
-use Rattle.cif_pages.proofs.Cuts.{filled_whole, filled_rest, filled_pages, ArePages-from_full}
+use Rattle.cif_pages.proofs.PageCuts.{filled_whole, filled_rest, filled_pages, ArePages-from_full}
 use Rattle.cif_pages.proofs.paged.filled_shelves.Goals as goal
 use Rattle.cif_pages.proofs.paged.filled_shelves.Goals.{then-rest-gt0+in_ok-filled+in_ok-push, else-rest-gt0}
 

@@ -1,5 +1,5 @@
 use Rattle.std.proofs.Common.{◌∙◌, arith}
-use Rattle.cif_pages.proofs.Places.{page_of, place_in, item_in}
+use Rattle.cif_pages.proofs.PagePlaces.{page_of, place_in, item_in}
 use Rattle.cif_pages.proofs.paged.get_in_shelves.Goals as goal
 
 pub bounds-shelves-index : goal.bounds-shelves-index

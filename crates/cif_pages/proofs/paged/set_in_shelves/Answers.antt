@@ -1,5 +1,5 @@
 use Rattle.std.proofs.Common.{arith}
-use Rattle.cif_pages.proofs.Places.{page_of, place_of, written, written_pages}
+use Rattle.cif_pages.proofs.PagePlaces.{page_of, place_of, written, written_pages}
 use Rattle.cif_pages.proofs.paged.set_in_shelves.Goals as goal
 
 pub bounds-shelves-index : goal.bounds-shelves-index

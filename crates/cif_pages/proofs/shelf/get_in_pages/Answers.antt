@@ -1,5 +1,5 @@
 use Rattle.std.proofs.Common.{◌∙◌, arith}
-use Rattle.cif_pages.proofs.Places.{page_of, place_in, item_in}
+use Rattle.cif_pages.proofs.PagePlaces.{page_of, place_in, item_in}
 use Rattle.cif_pages.proofs.shelf.get_in_pages.Goals as goal
 
 pub bounds-pages-index : goal.bounds-pages-index

@@ -1,6 +1,6 @@
 use Rattle.std.proofs.Common.{◌∙◌}
 use Rattle.std.specs.Slice.Iter.{chunks_rest, chunks_size}
-use Rattle.cif_pages.proofs.Cuts.{next_piece}
+use Rattle.cif_pages.proofs.PageCuts.{next_piece}
 use Rattle.cif_pages.proofs.shelf.pages_of.Goals as goal
 
 pub loop-piece-preserved : goal.loop-piece-preserved

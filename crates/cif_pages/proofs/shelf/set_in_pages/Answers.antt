@@ -1,5 +1,5 @@
 use Rattle.std.proofs.Common.{arith}
-use Rattle.cif_pages.proofs.Places.{page_of, place_of, written, written_pages}
+use Rattle.cif_pages.proofs.PagePlaces.{page_of, place_of, written, written_pages}
 use Rattle.cif_pages.proofs.shelf.set_in_pages.Goals as goal
 
 pub bounds-pages-index : goal.bounds-pages-index

@@ -1,7 +1,7 @@
 use Rattle.std.proofs.Common.{ℕ, ◌≡◌, ◌<◌, ◌||◌, length, drop, map}
 use Rattle.cif_defs.specs.Words.{bit}
 use Rattle.cif_defs.specs.Stimulus.{is_released}
-use Rattle.cif_stim.specs.StimulusView.{line_seen}
+use Rattle.cif_stimulus.specs.StimulusView.{line_seen}
 use Rattle.cif_seq.proofs.case.mark_lines.Given as goal
 
 abbrev pub invariant-loop-line : goal.invariant-loop-line

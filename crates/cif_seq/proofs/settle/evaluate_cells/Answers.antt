@@ -2,7 +2,7 @@ use Rattle.std.proofs.Common.{refl, ◌∙◌, ◌≡◌, ◌<◌, ℕ, List, ap
 use Rattle.cif_defs.specs.Stimulus.{is_released}
 use Rattle.cif_seq.specs.Cases.{net_of}
 use Rattle.cif_seq.specs.Settled.{EvaluatesTaints, EvaluatesValues}
-use Rattle.cif_seq.proofs.Steps.{values_follow, taints_follow}
+use Rattle.cif_seq.proofs.EvaluationSteps.{values_follow, taints_follow}
 use Rattle.cif_seq.proofs.settle.evaluate_cells.Goals as goal
 
 pub loop-i-preserved : goal.loop-i-preserved

@@ -4,9 +4,9 @@ use Rattle.cif_defs.specs.Run.{input_value}
 use Rattle.cif_defs.specs.Stimulus.{is_released}
 use Rattle.cif_defs.specs.TaintRun.{input_taint}
 use Rattle.cif_defs.proofs.WordLaws.{length-word}
-use Rattle.cif_stim.specs.Cursor.{cycle_of}
+use Rattle.cif_inputs.specs.Cursor.{cycle_of}
 use Rattle.cif_seq.specs.Cases.{net_of}
-use Rattle.cif_seq.proofs.Steps.{taints_end, taints_start, values_end, values_start, whole_slice}
+use Rattle.cif_seq.proofs.EvaluationSteps.{taints_end, taints_start, values_end, values_start, whole_slice}
 use Rattle.cif_seq.proofs.settle.settled.Goals as goal
 
 pub evaluate_cells-requires-clause-as_many_values : goal.evaluate_cells-requires-clause-as_many_values

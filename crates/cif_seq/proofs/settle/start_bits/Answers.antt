@@ -3,7 +3,7 @@ use Rattle.cif_defs.specs.Accepted.{netlist_of}
 use Rattle.cif_defs.specs.declared.raw_module.Raw.{Raw}
 use Rattle.cif_defs.proofs.WordLaws.{word_push}
 use Rattle.cif_seq.specs.Cases.{net_of}
-use Rattle.cif_seq.proofs.Steps.{cleared_by}
+use Rattle.cif_seq.proofs.EvaluationSteps.{cleared_by}
 use Rattle.cif_seq.proofs.settle.start_bits.Goals as goal
 
 pub loop-net-preserved : goal.loop-net-preserved

@@ -5,7 +5,7 @@ use Rattle.cif_defs.specs.Netlist.{driver_of}
 use Rattle.cif_defs.specs.Run.{driver_value_at_depth_0, input_value}
 use Rattle.cif_defs.specs.Stimulus.{is_released}
 use Rattle.cif_defs.specs.TaintRun.{driver_taint_at_depth_0, input_taint}
-use Rattle.cif_stim.specs.Cursor.{cycle_of}
+use Rattle.cif_inputs.specs.Cursor.{cycle_of}
 use Rattle.cif_seq.specs.Cases.{net_of}
 use Rattle.cif_seq.proofs.settle.start_bits.Given as goal
 

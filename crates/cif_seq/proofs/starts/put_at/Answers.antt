@@ -1,5 +1,5 @@
 use Rattle.std.proofs.Common.{arith, refl}
-use Rattle.cif_seq.proofs.RowLaws.{put_more}
+use Rattle.cif_cycle.proofs.PutRows.{put_more}
 use Rattle.cif_seq.proofs.starts.put_at.Goals as goal
 
 pub loop-i-preserved : goal.loop-i-preserved

@@ -1,5 +1,5 @@
 use Rattle.cif_defs.specs.Words.{bit, word}
-use Rattle.cif_seq.specs.Rows.{IsPutAt}
+use Rattle.cif_cycle.specs.Rows.{IsPutAt}
 use Rattle.cif_seq.proofs.starts.put_at.Given as goal
 
 abbrev pub invariant-loop-i : goal.invariant-loop-i

@@ -1,4 +1,4 @@
-use Rattle.cif_seq.proofs.RowLaws.{row_put, row_past}
+use Rattle.cif_cycle.proofs.PutRows.{row_put, row_past}
 use Rattle.cif_seq.proofs.starts.put_row.Goals as goal
 
 pub returns-then-row-rows : goal.returns-then-row-rows

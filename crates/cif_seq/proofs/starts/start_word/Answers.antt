@@ -3,7 +3,7 @@ use Rattle.std.proofs.lemmas.List.{with_items_is}
 use Rattle.cif_defs.specs.Accepted.{netlist_of}
 use Rattle.cif_defs.specs.Cells.{state_bits}
 use Rattle.cif_cells.proofs.InitialLaws.{initial_words}
-use Rattle.cif_stim.specs.StimulusView.{tainted}
+use Rattle.cif_stimulus.specs.StimulusView.{tainted}
 use Rattle.cif_seq.proofs.StartWords.{cell_read, size_read, few_bits, length_given, length_clear, given_same, last_value, last_taint}
 use Rattle.cif_seq.proofs.starts.start_word.Goals as goal
 

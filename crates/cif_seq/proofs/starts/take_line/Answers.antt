@@ -1,8 +1,8 @@
 use Rattle.std.proofs.Common.{◌-◌, ap, ◌∙◌, length}
 use Rattle.cif_defs.specs.Words.{Word, bit, word}
 use Rattle.cif_defs.specs.Stimulus.{with_row}
-use Rattle.cif_stim.specs.StimulusView.{line_seen}
-use Rattle.cif_seq.proofs.RowLaws.{put_whole}
+use Rattle.cif_stimulus.specs.StimulusView.{line_seen}
+use Rattle.cif_cycle.proofs.PutRows.{put_whole}
 use Rattle.cif_seq.proofs.StartLaws.{reg_taken, mem_taken}
 use Rattle.cif_seq.proofs.starts.take_line.Goals as goal
 

@@ -1,6 +1,6 @@
 use Rattle.std.proofs.Common.{arith, rules, ap, sym, ◌∙◌, ◌≡◌, ◌<◌, length, map}
 use Rattle.std.proofs.lemmas.List.{length-map}
-use Rattle.cif_stim.specs.StimulusView.{line_seen, tainted}
+use Rattle.cif_stimulus.specs.StimulusView.{line_seen, tainted}
 use Rattle.cif_seq.specs.Starts.{start_from}
 use Rattle.cif_seq.proofs.StartLaws.{same_of, started_first, started_next}
 use Rattle.cif_seq.proofs.StartWords.{place_inside, line_is, line_named, next_left, at_none, at_some}

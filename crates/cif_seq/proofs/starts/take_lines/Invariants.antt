@@ -1,6 +1,6 @@
 use Rattle.std.proofs.Common.{◌≡◌, length, map}
 use Rattle.cif_defs.specs.Cells.{state_bits}
-use Rattle.cif_stim.specs.StimulusView.{line_seen, tainted}
+use Rattle.cif_stimulus.specs.StimulusView.{line_seen, tainted}
 use Rattle.cif_seq.specs.Starts.{StartedTo, lines_left}
 use Rattle.cif_seq.proofs.starts.take_lines.Given as goal
 

@@ -3,7 +3,7 @@ use Rattle.cif_defs.specs.Words.{bit}
 use Rattle.cif_defs.specs.Accepted.{netlist_of}
 use Rattle.cif_cells.proofs.MemoryCells.{memory_ports}
 use Rattle.cif_seq.proofs.StartWords.{cell_read}
-use Rattle.cif_seq.proofs.StateLaws.{fitted_read, narrow_read, role_read, numbers_read, values_long, taints_long}
+use Rattle.cif_seq.proofs.CellStates.{fitted_read, narrow_read, role_read, numbers_read, values_long, taints_long}
 use Rattle.cif_seq.proofs.state.next_state.Goals as goal
 
 pub value_words-requires : goal.value_words-requires

@@ -2,7 +2,7 @@ use Rattle.std.proofs.Common.{arith, ap, ◌≡◌, List, length}
 use Rattle.cif_defs.specs.Words.{bit}
 use Rattle.cif_defs.specs.Accepted.{netlist_of}
 use Rattle.cif_defs.specs.Cells.{Cell}
-use Rattle.cif_seq.proofs.StateLaws.{list_more, values_after_all, taints_after_all, flags_after_all, next_is_stored, word_read, flag_read, value_of_next, taint_of_next, flag_of_next}
+use Rattle.cif_seq.proofs.CellStates.{list_more, values_after_all, taints_after_all, flags_after_all, next_is_stored, word_read, flag_read, value_of_next, taint_of_next, flag_of_next}
 use Rattle.cif_seq.proofs.state.next_words.Goals as goal
 
 pub returns-clause-values : goal.returns-clause-values

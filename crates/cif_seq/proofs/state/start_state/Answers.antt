@@ -1,4 +1,4 @@
-use Rattle.cif_seq.proofs.StateLaws.{start_short, taint_short}
+use Rattle.cif_seq.proofs.CellStates.{start_short, taint_short}
 use Rattle.cif_seq.proofs.state.start_state.Goals as goal
 
 pub paged-requires : goal.paged-requires

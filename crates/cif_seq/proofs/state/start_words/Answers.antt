@@ -1,7 +1,7 @@
 use Rattle.std.proofs.Common.{arith, ap, ◌≡◌, List, length}
 use Rattle.cif_defs.specs.Accepted.{netlist_of}
 use Rattle.cif_defs.specs.Cells.{Cell}
-use Rattle.cif_seq.proofs.StateLaws.{list_more, start_state, start_stored, start_off}
+use Rattle.cif_seq.proofs.CellStates.{list_more, start_state, start_stored, start_off}
 use Rattle.cif_seq.proofs.StateWidths.{is_stored}
 use Rattle.cif_seq.proofs.state.start_words.Goals as goal
 

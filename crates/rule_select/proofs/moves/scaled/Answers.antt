@@ -1,7 +1,7 @@
 -- There are few select bits.
 use Rattle.std.specs.Prelude.{◌≤◌}
 use Rattle.std.proofs.Common.{arith}
-use Rattle.rule_select.proofs.Steps.{few_selects}
+use Rattle.rule_select.proofs.StageSteps.{few_selects}
 use Rattle.rule_select.proofs.moves.scaled.Goals as goal
 
 pub overflow_shl-result : goal.overflow_shl-result

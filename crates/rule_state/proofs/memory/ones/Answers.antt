@@ -1,6 +1,6 @@
 -- A list of ones is the word of ones.
 use Rattle.std.proofs.Common.{◌∙◌, rules}
-use Rattle.rule_state.proofs.MemoryWords.{ones_from_replicate}
+use Rattle.rule_state.proofs.StoredTaintWords.{ones_from_replicate}
 use Rattle.rule_state.proofs.memory.ones.Goals as goal
 
 pub returns : goal.returns

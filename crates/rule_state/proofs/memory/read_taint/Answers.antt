@@ -2,7 +2,7 @@
 use Rattle.std.proofs.Common.{true, ◌||◌, ap, sym, ◌∙◌}
 use Rattle.cif_defs.specs.Words.{word}
 use Rattle.rule_state.proofs.MemoryLaws.{read_defined}
-use Rattle.rule_state.proofs.MemoryWords.{plain_read, tainted_read}
+use Rattle.rule_state.proofs.StoredTaintWords.{plain_read, tainted_read}
 use Rattle.rule_state.proofs.memory.read_taint.Goals as goal
 
 pub returns-in_ok-ones-clause-is : goal.returns-in_ok-ones-clause-is

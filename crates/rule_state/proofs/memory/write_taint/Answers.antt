@@ -2,7 +2,7 @@
 use Rattle.std.proofs.Common.{sym, ◌∙◌}
 use Rattle.cif_defs.specs.Cells.{shape_of, width}
 use Rattle.rule_state.proofs.MemoryLaws.{write_defined}
-use Rattle.rule_state.proofs.MemoryWords.{kept, written}
+use Rattle.rule_state.proofs.StoredTaintWords.{kept, written}
 use Rattle.rule_state.proofs.memory.write_taint.Goals as goal
 
 pub returns-then-is_addressed-clause-is : goal.returns-then-is_addressed-clause-is

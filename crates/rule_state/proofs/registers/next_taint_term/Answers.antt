@@ -1,6 +1,6 @@
 -- The formula of each kind is right.
 use Rattle.std.proofs.Common.{sym, subst}
-use Rattle.cif_cells.proofs.RegisterCells.{IsRegisterWidth, register_width_fits}
+use Rattle.cif_kinds.proofs.RegisterCells.{IsRegisterWidth, register_width_fits}
 use Rattle.cif_term.specs.Formulas.{Formula}
 use Rattle.rule_state.specs.RegisterTaints.{IsNextTaint}
 use Rattle.rule_state.proofs.RegisterLaws.{next_taint_of}

@@ -1,7 +1,7 @@
 -- The formula of what is shown is right.
 use Rattle.std.proofs.Common.{ap, sym, subst}
-use Rattle.cif_cells.specs.RegisterKinds.{is_register}
-use Rattle.cif_cells.proofs.RegisterCells.{IsRegisterWidth, register_width_fits}
+use Rattle.cif_defs.specs.Kinds.{is_register}
+use Rattle.cif_kinds.proofs.RegisterCells.{IsRegisterWidth, register_width_fits}
 use Rattle.cif_term.specs.Formulas.{Formula}
 use Rattle.rule_state.specs.RegisterTaints.{IsShownTaint}
 use Rattle.rule_state.proofs.RegisterLaws.{shown_taint_of}

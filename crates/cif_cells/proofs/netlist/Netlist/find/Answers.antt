@@ -1,6 +1,7 @@
-use Rattle.std.proofs.Common.{◌∙◌}
-use Rattle.cif_cells.proofs.FindingLaws.{found_is}
+use Rattle.std.proofs.Common.{◌∙◌, ap}
+use Rattle.cif_defs.specs.declared.raw_module.Raw.{Raw}
+use Rattle.cif_cells.specs.Finding.{found_of}
 use Rattle.cif_cells.proofs.netlist.Netlist.find.Goals as goal
 
 pub returns : goal.returns
-returns c = c.found_in.ensures ∙ found_is c.self.inside.raw c.args.self.now c.self.inside.wires c.args.name.now c.self.view_is c.self.invariant.same_wires
+returns c = c.found_in.ensures ∙ ap (λ (r : Raw). found_of r c.args.name.now) c.self.view_is

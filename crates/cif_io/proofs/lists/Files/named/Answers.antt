@@ -1,6 +1,6 @@
 use Rattle.std.proofs.Common.{ap, ◌∙◌}
 use Rattle.cif_io.specs.Outside.{Files, file_named}
-use Rattle.cif_io.proofs.ToldLaws.{option_map-find}
+use Rattle.cif_io.proofs.NamedFiles.{option_map-find}
 use Rattle.cif_io.proofs.lists.Files.named.Goals as goal
 
 pub returns : goal.returns

@@ -2,7 +2,7 @@ use Rattle.std.proofs.Common.{◌≡◌, ◌<◌, length, arith}
 use Rattle.cif_defs.specs.Accepted.{netlist_of}
 use Rattle.cif_defs.proofs.Orders.{in_range}
 use Rattle.cif_level.specs.declared.feeders.Mark.TheVariants.{OnPath}
-use Rattle.cif_level.proofs.Kept.{started, entered_seen, follows_so, unseen_unplaced}
+use Rattle.cif_level.proofs.SearchSteps.{started, entered_seen, follows_so, unseen_unplaced}
 use Rattle.cif_level.proofs.search.Search.settle.Goals as goal
 
 pub loop-cell-init : goal.loop-cell-init

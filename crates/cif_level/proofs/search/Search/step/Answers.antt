@@ -6,7 +6,7 @@ use Rattle.cif_level.specs.declared.feeders.Mark.{Mark}
 use Rattle.cif_level.specs.declared.feeders.Mark.TheVariants.{OnPath, Placed}
 use Rattle.cif_level.specs.Feeding.{feeder_at}
 use Rattle.cif_level.specs.Searching.{mark_of, AreBefore, AreAllPlaced}
-use Rattle.cif_level.proofs.Kept.{cell_known, feed_known, finished, last_on_path, followed, closed_is_loop, less_work, follows_so, unseen_weight, path_weight, path_unplaced, not_so}
+use Rattle.cif_level.proofs.SearchSteps.{cell_known, feed_known, finished, last_on_path, followed, closed_is_loop, less_work, follows_so, unseen_weight, path_weight, path_unplaced, not_so}
 use Rattle.cif_level.proofs.search.Search.step.Goals as goal
 
 below_marks : (n : Netlist) (old new : List Mark) (x : ℕ) → x < length n.cells → length old ≡ length n.cells → new ≡ old → x < length new

@@ -1,5 +1,5 @@
 use Rattle.std.proofs.Common.{◌≤◌, length, map}
-use Rattle.cif_stim.specs.StimulusView.{line_seen}
+use Rattle.cif_stimulus.specs.StimulusView.{line_seen}
 use Rattle.cif_seq.specs.Starts.{IsTableFrom}
 use Rattle.cif_seq.proofs.starts.StartLines.of.Given as goal
 

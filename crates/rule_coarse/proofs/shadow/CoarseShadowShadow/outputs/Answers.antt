@@ -1,5 +1,5 @@
 use Rattle.std.proofs.Common.{arith, ap, length}
-use Rattle.rule_logic.proofs.LogicOutputs.{few_outputs}
+use Rattle.cif_term.proofs.OutputTerms.{few_outputs}
 use Rattle.rule_coarse.proofs.shadow.CoarseShadowShadow.outputs.Goals as goal
 
 pub overflow_cast-result : goal.overflow_cast-result

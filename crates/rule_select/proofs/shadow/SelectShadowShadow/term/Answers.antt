@@ -1,11 +1,11 @@
 -- The term stands for the cell's formula.
 use Rattle.cif_term.specs.CellTaints.{IsTaintOf, output_width}
 use Rattle.cif_term.specs.TermView.{formula_of}
-use Rattle.rule_select.proofs.SelectLaws.{taint_at}
+use Rattle.rule_select.proofs.SelectLaws.{select_term_is}
 use Rattle.rule_select.proofs.shadow.SelectShadowShadow.term.Goals as goal
 
 the_taint : (c : goal.In_ok-select_term) → IsTaintOf c.args.self.now c.args.output (formula_of c.in_ok-select_term.field-0)
-the_taint c = rw (← c.self.view_is) (taint_at _ c.args.output _ c.self.invariant.1 c.self.invariant.0 (rw c.self.view_is c.requires) c.in_ok-select_term.ensures)
+the_taint c = select_term_is _ _ c.args.output _ c.self.view_is c.self.invariant.0 c.self.invariant.1 c.requires c.in_ok-select_term.ensures
 
 pub returns-clause-formed : goal.returns-clause-formed
 returns-clause-formed c = (output_width c.args.self.now c.args.output, (the_taint c).formed)

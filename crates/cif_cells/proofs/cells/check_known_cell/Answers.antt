@@ -1,6 +1,0 @@
-use Rattle.std.proofs.Common.{refl}
-use Rattle.cif_cells.proofs.CellChecks.{narrow_outputs}
-use Rattle.cif_cells.proofs.cells.check_known_cell.Goals as goal
-
-pub check_outputs-requires : goal.check_outputs-requires
-check_outputs-requires c = narrow_outputs c.args.cell.now c.args.kind (c.in_ok-check_all_rows-2.ensures.ok refl) (c.in_ok-check_all_rows-4.ensures.ok refl)

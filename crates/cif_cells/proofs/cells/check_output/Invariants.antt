@@ -1,8 +1,0 @@
-use Rattle.std.proofs.Common.{◌≡◌, drop}
-use Rattle.cif_cells.specs.declared.fault.BuildFault.TheVariants.{ConstantOutput}
-use Rattle.cif_cells.specs.Checks.{first_fault_from, fault_if, is_constant, cell_spot, constant_output}
-use Rattle.cif_cells.proofs.cells.check_output.Given as goal
-
-abbrev pub invariant-loop-index : goal.invariant-loop-index
-invariant-loop-index l =
-    first_fault_from (λ i b. fault_if (is_constant b) (ConstantOutput (cell_spot l.cell l.row) i)) l.index (drop l.index l.bit-items) ≡ constant_output l.cell l.row

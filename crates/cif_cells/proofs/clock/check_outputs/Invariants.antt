@@ -1,9 +1,0 @@
-use Rattle.std.proofs.Common.{◌≡◌, drop}
-use Rattle.std.specs.List.{filter}
-use Rattle.cif_defs.specs.Accepted.{is_output}
-use Rattle.cif_cells.specs.Checks.{first_fault}
-use Rattle.cif_cells.specs.Clocks.{port_fault}
-use Rattle.cif_cells.proofs.clock.check_outputs.Given as goal
-
-abbrev pub invariant-loop-port : goal.invariant-loop-port
-invariant-loop-port l = first_fault (port_fault l.number) (filter is_output (drop l.port-index l.ports)) ≡ first_fault (port_fault l.number) (filter is_output l.ports)

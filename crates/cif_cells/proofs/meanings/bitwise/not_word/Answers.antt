@@ -1,6 +1,0 @@
-use Rattle.std.proofs.Common.{not}
-use Rattle.cif_cells.proofs.MeaningLaws.{answered, each_bit}
-use Rattle.cif_cells.proofs.meanings.bitwise.not_word.Goals as goal
-
-pub returns : goal.returns
-returns c = answered _ _ _ (each_bit not _ _ _ c.in_ok-a.ensures) c.not.ensures

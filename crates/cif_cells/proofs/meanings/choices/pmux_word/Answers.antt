@@ -1,7 +1,0 @@
-use Rattle.std.proofs.Common.{sym, ◌∙◌}
-use Rattle.cif_cells.proofs.MeaningLaws.{answered}
-use Rattle.cif_cells.proofs.ChoiceLaws.{pmux_none}
-use Rattle.cif_cells.proofs.meanings.choices.pmux_word.Goals as goal
-
-pub returns-in-None : goal.returns-in-None
-returns-in-None c = answered _ _ _ (pmux_none _ _ c.args.b.now c.args.s.now c.requires.a_width (sym c.first_one.ensures.value ∙ c.in-None.is)) c.copy.ensures

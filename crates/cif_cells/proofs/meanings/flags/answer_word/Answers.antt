@@ -1,5 +1,0 @@
-use Rattle.cif_cells.proofs.MeaningLaws.{flag_set}
-use Rattle.cif_cells.proofs.meanings.flags.answer_word.Goals as goal
-
-pub returns : goal.returns
-returns c = flag_set _ _ _ _ c.in_ok-word.ensures c.set.ensures

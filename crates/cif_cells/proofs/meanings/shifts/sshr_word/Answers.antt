@@ -1,6 +1,0 @@
-use Rattle.cif_cells.proofs.MeaningLaws.{answered}
-use Rattle.cif_cells.proofs.ShiftLaws.{sshr_is}
-use Rattle.cif_cells.proofs.meanings.shifts.sshr_word.Goals as goal
-
-pub returns : goal.returns
-returns c = answered _ _ _ (sshr_is _ _ _ _ _ _ _ c.in_ok-wide.ensures c.to_u128.ensures.value c.is_negative-fill.ensures) c.moved_down.ensures

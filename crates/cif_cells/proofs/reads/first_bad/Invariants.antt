@@ -1,6 +1,0 @@
-use Rattle.std.proofs.Common.{◌≡◌, drop}
-use Rattle.cif_cells.specs.Reads.{first_bad}
-use Rattle.cif_cells.proofs.reads.first_bad.Given as goal
-
-abbrev pub invariant-loop-index : goal.invariant-loop-index
-invariant-loop-index l = first_bad l.nets l.index (drop l.index l.bits) ≡ first_bad l.nets 0 l.bits

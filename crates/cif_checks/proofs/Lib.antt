@@ -1,0 +1,6 @@
+pub mod RawLaws
+pub mod InputLaws
+pub mod MaskLaws
+pub mod CellChecks
+pub mod FirstFaults
+pub mod KnownCells

@@ -1,0 +1,6 @@
+use Rattle.std.proofs.Common.{◌≡◌, ◌++◌, map, take}
+use Rattle.cif_defs.specs.RawModule.{port_bits}
+use Rattle.cif_checks.proofs.known.push_ports.Given as goal
+
+abbrev pub invariant-loop-row : goal.invariant-loop-row
+invariant-loop-row l = l.ports.items ≡ l.initial.ports.items ++ map (port_bits l.cell) (take l.row-index l.rows)

@@ -1,0 +1,4 @@
+pub mod Checks
+pub mod InputNumbers
+pub mod PortChecks
+pub mod Known

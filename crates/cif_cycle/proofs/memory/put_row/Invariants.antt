@@ -1,0 +1,6 @@
+use Rattle.cif_defs.specs.Words.{bit, word}
+use Rattle.cif_cycle.specs.Rows.{IsPutAt}
+use Rattle.cif_cycle.proofs.memory.put_row.Given as goal
+
+abbrev pub invariant-loop-i : goal.invariant-loop-i
+invariant-loop-i l = IsPutAt l.at (word l.i (λ i. bit l.row i)) l.fn.stored l.stored

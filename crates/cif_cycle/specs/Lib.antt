@@ -1,0 +1,4 @@
+pub mod CellWords
+pub mod Rows
+pub mod StateWords
+pub mod Memories

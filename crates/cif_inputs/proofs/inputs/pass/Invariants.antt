@@ -1,0 +1,8 @@
+use Rattle.std.proofs.Common.{◌≡◌, List, map}
+use Rattle.cif_defs.specs.declared.nets.Wire.{Wire}
+use Rattle.cif_stimulus.specs.StimulusView.{line_seen}
+use Rattle.cif_inputs.specs.Cursor.{target_of, Passes}
+use Rattle.cif_inputs.proofs.inputs.pass.Given as goal
+
+abbrev pub invariant-loop-number : goal.invariant-loop-number
+invariant-loop-number l = (ports : List Wire) → l.targets ≡ map (target_of ports) (map line_seen l.lines) → Passes ports (map line_seen l.lines) l.cycle l.fn.from l.fn.setters l.number l.setters

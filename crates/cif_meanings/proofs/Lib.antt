@@ -1,0 +1,7 @@
+pub mod PortLaws
+pub mod RowLaws
+pub mod MeaningLaws
+pub mod ShiftLaws
+pub mod ChoiceLaws
+pub mod NumberMeanings
+pub mod NumberCells

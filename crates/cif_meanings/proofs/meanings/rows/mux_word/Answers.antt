@@ -1,0 +1,12 @@
+use Rattle.std.proofs.Common.{refl}
+use Rattle.cif_defs.specs.Cells.{words_by}
+use Rattle.cif_defs.specs.Meanings.{mux_word}
+use Rattle.cif_defs.specs.declared.kinds.Kind.TheVariants.{Mux}
+use Rattle.cif_meanings.proofs.RowLaws.{alone, by_kind, row_4}
+use Rattle.cif_meanings.proofs.meanings.rows.mux_word.Goals as goal
+
+pub returns : goal.returns
+unfolding words_by
+returns c =
+    alone _ _ _ (row_4 mux_word _ _ _ _ _ _ _ _ _ c.small_number-width.ensures c.operand-a.ensures c.operand-b.ensures c.operand-s.ensures (by_kind c.args.cell.now c.args.operands.now _ Mux _ refl c.requires.kind refl))
+    c.mux_word.ensures

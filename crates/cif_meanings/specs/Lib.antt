@@ -1,0 +1,2 @@
+pub mod CellPorts
+pub mod NumberKinds

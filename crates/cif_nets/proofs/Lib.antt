@@ -1,0 +1,15 @@
+pub mod Places
+pub mod Rising
+pub mod Driven
+pub mod Passed
+pub mod Wired
+pub mod NumberLaws
+pub mod ToldLaws
+pub mod DriveLaws
+pub mod FewBits
+pub mod Kept
+pub mod FewInputs
+pub mod NetLaws
+pub mod ClockLaws
+pub mod ReadLaws
+pub mod InitLaws

@@ -1,0 +1,3 @@
+pub mod KindCovers
+pub mod TermWords
+pub mod CellFormulas

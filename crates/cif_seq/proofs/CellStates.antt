@@ -1,0 +1,135 @@
+-- What all cells store, cell by cell.
+use Rattle.std.specs.Prelude.{ℕ, ◌+◌, ◌<◌, ◌≤◌, ◌≡◌, Bool, false, List, [], ◌∷◌, ◌++◌, map, length, get_or}
+use Rattle.std.specs.List.{range_with_len}
+use Rattle.std.proofs.Common.{arith, ap, sym, subst, ◌∙◌}
+use Rattle.std.proofs.lemmas.List.{get_or_default}
+use Rattle.std.proofs.lemmas.List.FromFn.{map-range_with_len_more, get_or-map-range_with_len, length-map-range_with_len}
+use Rattle.cif_defs.specs.Words.{Word}
+use Rattle.cif_defs.specs.Accepted.{netlist_of}
+use Rattle.cif_defs.specs.Kinds.{role_of}
+use Rattle.cif_defs.specs.Cells.{Cell, state_bits}
+use Rattle.cif_defs.specs.Fitted.{IsFitted, operand_widths}
+use Rattle.cif_defs.specs.Netlist.{Netlist, no_cell, cell_at, role_at}
+use Rattle.cif_defs.specs.Stimulus.{Stimulus, start_at}
+use Rattle.cif_defs.specs.Run.{state, next_stored, stored_by, operand_words}
+use Rattle.cif_defs.specs.TaintRun.{next_taints, taint_state, taint_stored_by, flag_by, operand_taints}
+use Rattle.cif_defs.specs.declared.raw_module.Raw.{Raw}
+use Rattle.cif_defs.specs.declared.kinds.Kind.{Kind}
+use Rattle.cif_defs.specs.declared.kinds.Role.{Role}
+use Rattle.cif_defs.specs.declared.kinds.Role.TheVariants.{MemoryBlock}
+use Rattle.cif_defs.proofs.WordLaws.{length-word}
+use Rattle.cif_checks.specs.Checks.{IsAccepted}
+use Rattle.cif_cells.specs.NetlistView.{AreFitted}
+use Rattle.cif_kinds.specs.StateCells.{HasMemoryNumbers}
+use Rattle.cif_cells.proofs.FittedCells.{fitted_at, narrow_operand}
+use Rattle.cif_cells.proofs.MemoryCells.{memory_numbers}
+use Rattle.cif_cells.proofs.StateLaws.{few_state_bits}
+use Rattle.cif_cycle.specs.CellWords.{AreNarrow}
+use Rattle.cif_seq.specs.Stored.{IsStored}
+use Rattle.cif_seq.specs.States.{start_values, start_taints, start_flags, next_values, next_stored_taints, next_flags}
+use Rattle.cif_seq.proofs.StateWidths.{length-stored, length-taint}
+use Rattle.cif_cycle.proofs.SourceWords.{words_wide, taints_wide}
+
+-- ---- one more cell
+
+pub list_more : {A : Type 0} (f : ℕ → A) (i : ℕ) (old new : List A) (x : A) → old ≡ map f (range_with_len 0 i) → new ≡ old ++ x ∷ [] → x ≡ f i → new ≡ map f (range_with_len 0 (i + 1))
+list_more f i old new x e h q = h ∙ ap (λ xs. xs ++ x ∷ []) e ∙ ap (λ y. map f (range_with_len 0 i) ++ y ∷ []) q ∙ sym (map-range_with_len_more f 0 i i (omega arith))
+
+pub list_done : {A : Type 0} (f : ℕ → A) (i n : ℕ) (xs : List A) → xs ≡ map f (range_with_len 0 i) → i ≡ n → xs ≡ map f (range_with_len 0 n)
+list_done f i n xs e h = e ∙ ap (λ k. map f (range_with_len 0 k)) h
+
+-- ---- the start
+
+pub start_state : (n : Netlist) (s : Stimulus) (i : ℕ) (values : List Word) → values ≡ start_values n s i → i ≡ length n.cells → values ≡ state n s 0
+unfolding state
+start_state n s i values e h = list_done (λ c. (start_at n s c).value) i (length n.cells) values e h
+
+pub start_stored : (n : Netlist) (s : Stimulus) (i : ℕ) (taints : List Word) → taints ≡ start_taints n s i → i ≡ length n.cells → taints ≡ (taint_state n s 0).stored
+unfolding taint_state
+start_stored n s i taints e h = list_done (λ c. (start_at n s c).taint) i (length n.cells) taints e h
+
+pub start_off : (n : Netlist) (s : Stimulus) (i : ℕ) (flags : List Bool) → flags ≡ start_flags i → i ≡ length n.cells → flags ≡ (taint_state n s 0).flags
+unfolding taint_state
+start_off n s i flags e h = list_done (λ c. false) i (length n.cells) flags e h
+
+-- the word with which a memory starts is short
+pub start_short : (raw : Raw) (s : Stimulus) (c : ℕ) (v seen : Word) → IsAccepted raw → c < length (netlist_of raw).cells → seen ≡ v → v ≡ (start_at (netlist_of raw) s c).value → length seen < 4294967296
+start_short raw s c v seen h l e q =
+    let size : length seen ≡ state_bits (cell_at (netlist_of raw) c) = ap length (e ∙ q) ∙ length-word _ _ in
+    let few : state_bits (cell_at (netlist_of raw) c) ≤ 16777216 = few_state_bits raw h c l in
+    omega arith
+
+pub taint_short : (raw : Raw) (s : Stimulus) (c : ℕ) (v seen : Word) → IsAccepted raw → c < length (netlist_of raw).cells → seen ≡ v → v ≡ (start_at (netlist_of raw) s c).taint → length seen < 4294967296
+taint_short raw s c v seen h l e q =
+    let size : length seen ≡ state_bits (cell_at (netlist_of raw) c) = ap length (e ∙ q) ∙ length-word _ _ in
+    let few : state_bits (cell_at (netlist_of raw) c) ≤ 16777216 = few_state_bits raw h c l in
+    omega arith
+
+-- ---- a cycle
+
+pub values_after_all : (n : Netlist) (stored : List Word) (v : ℕ → Bool) (i : ℕ) (values : List Word) → values ≡ next_values n stored v i → i ≡ length n.cells → values ≡ next_stored n stored v
+values_after_all n stored v i values e h = list_done (λ c. stored_by (role_at n c) (cell_at n c) v (get_or stored c [])) i (length n.cells) values e h
+
+pub taints_after_all : (n : Netlist) (stored stored_taints : List Word) (flags : List Bool) (v t : ℕ → Bool) (i : ℕ) (taints : List Word) → taints ≡ next_stored_taints n stored stored_taints v t i → i ≡ length n.cells
+    → taints ≡ (next_taints n stored v (record { stored = stored_taints; flags = flags }) t).stored
+taints_after_all n stored stored_taints flags v t i taints e h = list_done (λ c. taint_stored_by (role_at n c) (cell_at n c) v t (get_or stored c []) (get_or stored_taints c [])) i (length n.cells) taints e h
+
+pub flags_after_all : (n : Netlist) (stored stored_taints : List Word) (flags : List Bool) (v t : ℕ → Bool) (i : ℕ) (new : List Bool) → new ≡ next_flags n flags v t i → i ≡ length n.cells
+    → new ≡ (next_taints n stored v (record { stored = stored_taints; flags = flags }) t).flags
+flags_after_all n stored stored_taints flags v t i new e h = list_done (λ c. flag_by (role_at n c) (cell_at n c) v t (get_or flags c false)) i (length n.cells) new e h
+
+listed : (f : ℕ → Word) (n c : ℕ) (xs : List Word) → xs ≡ map f (range_with_len 0 n) → c < n → get_or xs c [] ≡ f c
+listed f n c xs e l = ap (λ (ws : List Word). get_or ws c []) e ∙ get_or-map-range_with_len f 0 n c c [] l (omega arith)
+
+-- the words after a cycle are as long as what the cells store
+pub next_is_stored : (n : Netlist) (stored stored_taints : List Word) (flags : List Bool) (v t : ℕ → Bool) (i : ℕ) (values taints : List Word) (new : List Bool) → values ≡ next_values n stored v i → taints ≡ next_stored_taints n stored stored_taints v t i
+    → new ≡ next_flags n flags v t i → i ≡ length n.cells → IsStored n values taints new
+next_is_stored n stored stored_taints flags v t i values taints new ev et ef h = record {
+  as_many_values = ap length ev ∙ length-map-range_with_len _ 0 i ∙ h;
+  as_many_taints = ap length et ∙ length-map-range_with_len _ 0 i ∙ h;
+  as_many_flags = ap length ef ∙ length-map-range_with_len _ 0 i ∙ h;
+  value_width = λ c l. ap length (listed (λ x. stored_by (role_at n x) (cell_at n x) v (get_or stored x [])) i c values ev (omega arith)) ∙ length-stored (role_at n c) (cell_at n c) v (get_or stored c []);
+  taint_width = λ c l. ap length (listed (λ x. taint_stored_by (role_at n x) (cell_at n x) v t (get_or stored x []) (get_or stored_taints x [])) i c taints et (omega arith)) ∙ length-taint (role_at n c) (cell_at n c) v t (get_or stored c []) (get_or stored_taints c []);
+}
+
+-- a word that was read at its number
+pub word_read : (words : List Word) (i : ℕ) (w : Word) → i < length words → w ≡ get_or words i w → w ≡ get_or words i []
+word_read words i w l e = e ∙ get_or_default words i w [] l
+
+-- ---- one cell
+
+pub fitted_read : (raw : Raw) (cells : List Cell) (c : ℕ) (x : Cell) → AreFitted cells → cells ≡ (netlist_of raw).cells → x ≡ get_or cells c x → c < length (netlist_of raw).cells → IsFitted x
+fitted_read raw cells c x f e h l =
+    let inside : c < length cells = (let q : length cells ≡ length (netlist_of raw).cells = ap (λ (xs : List Cell). length xs) e in omega arith) in
+    subst (λ (z : Cell). IsFitted z) (sym (h ∙ get_or_default cells c x no_cell inside)) (fitted_at cells f c inside)
+
+pub narrow_read : (raw : Raw) (c : ℕ) (x : Cell) → IsAccepted raw → c < length (netlist_of raw).cells → x ≡ cell_at (netlist_of raw) c → AreNarrow x.operands
+unfolding AreNarrow
+narrow_read raw c x h l e = λ p. (let small = narrow_operand raw h c p l in let same : length (get_or x.operands p []) ≡ length (get_or (cell_at (netlist_of raw) c).operands p []) = ap (λ (z : Cell). length (get_or z.operands p [])) e in omega arith)
+
+pub role_read : (x : Cell) (k : Kind) (q r : Role) → k ≡ x.kind → q ≡ role_of k → q ≡ r → role_of x.kind ≡ r
+role_read x k q r e h is = ap role_of (sym e) ∙ sym h ∙ is
+
+pub numbers_read : (raw : Raw) (c : ℕ) (x : Cell) → IsAccepted raw → c < length (netlist_of raw).cells → x ≡ cell_at (netlist_of raw) c → role_of x.kind ≡ MemoryBlock → HasMemoryNumbers x
+numbers_read raw c x h l e r =
+    subst (λ (z : Cell). HasMemoryNumbers z) (sym e) (memory_numbers raw h c l (ap (λ (z : Cell). role_of z.kind) (sym e) ∙ r))
+
+pub values_long : (v : ℕ → Bool) (x : Cell) (seen us : List Word) → seen ≡ us → us ≡ operand_words v x → map length seen ≡ operand_widths x
+values_long v x seen us e h = ap (λ (ws : List Word). map length ws) (e ∙ h) ∙ words_wide v x.operands
+
+pub taints_long : (t : ℕ → Bool) (x : Cell) (seen us : List Word) → seen ≡ us → us ≡ operand_taints t x → map length seen ≡ operand_widths x
+taints_long t x seen us e h = ap (λ (ws : List Word). map length ws) (e ∙ h) ∙ taints_wide t x.operands
+
+pub flag_read : (flags : List Bool) (i : ℕ) (b : Bool) → i < length flags → b ≡ get_or flags i b → b ≡ get_or flags i false
+flag_read flags i b l e = e ∙ get_or_default flags i b false l
+
+pub value_of_next : (n : Netlist) (v : ℕ → Bool) (stored : List Word) (c : ℕ) (w x : Word) → w ≡ get_or stored c [] → x ≡ stored_by (role_at n c) (cell_at n c) v w → x ≡ stored_by (role_at n c) (cell_at n c) v (get_or stored c [])
+value_of_next n v stored c w x e h = h ∙ ap (λ (u : Word). stored_by (role_at n c) (cell_at n c) v u) e
+
+pub taint_of_next : (n : Netlist) (v t : ℕ → Bool) (stored stored_taints : List Word) (c : ℕ) (w u x : Word) → w ≡ get_or stored c [] → u ≡ get_or stored_taints c [] → x ≡ taint_stored_by (role_at n c) (cell_at n c) v t w u
+    → x ≡ taint_stored_by (role_at n c) (cell_at n c) v t (get_or stored c []) (get_or stored_taints c [])
+taint_of_next n v t stored stored_taints c w u x e f h =
+    h ∙ ap (λ (y : Word). taint_stored_by (role_at n c) (cell_at n c) v t y u) e ∙ ap (λ (y : Word). taint_stored_by (role_at n c) (cell_at n c) v t (get_or stored c []) y) f
+
+pub flag_of_next : (n : Netlist) (v t : ℕ → Bool) (flags : List Bool) (c : ℕ) (b x : Bool) → b ≡ get_or flags c false → x ≡ flag_by (role_at n c) (cell_at n c) v t b → x ≡ flag_by (role_at n c) (cell_at n c) v t (get_or flags c false)
+flag_of_next n v t flags c b x e h = h ∙ ap (λ y. flag_by (role_at n c) (cell_at n c) v t y) e

@@ -1,5 +1,0 @@
-use Rattle.cif_seq.proofs.Gathered.{taint_push}
-use Rattle.cif_seq.proofs.gather.taint_bits.Goals as goal
-
-pub loop-source-preserved : goal.loop-source-preserved
-loop-source-preserved c = taint_push _ _ _ _ _ _ _ c.loop-source-test.true c.loop-source.invariant c.in_ok-push.ensures.items c.source_taint.ensures

@@ -1,6 +1,0 @@
-use Rattle.std.proofs.Common.{◌∙◌, ◌≡◌, ap, arith, length}
-use Rattle.cif_seq.proofs.TaintWords.{length-taint}
-use Rattle.cif_seq.proofs.gather.taint_word.Goals as goal
-
-pub of-requires : goal.of-requires
-of-requires c = let e : length c.in_ok-bits.bits.items ≡ length c.args.sources.now = ap length c.in_ok-bits.ensures ∙ length-taint _ _ in omega arith

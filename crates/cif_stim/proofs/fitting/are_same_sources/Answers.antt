@@ -1,6 +1,0 @@
-use Rattle.std.proofs.Common.{◌∙◌}
-use Rattle.cif_stim.proofs.Fits.{same_sources}
-use Rattle.cif_stim.proofs.fitting.are_same_sources.Goals as goal
-
-pub returns : goal.returns
-returns c = c.eq.ensures ∙ same_sources c.args.first.now c.args.second.now

@@ -1,5 +1,0 @@
-use Rattle.cif_stim.proofs.Forms.{width_none}
-use Rattle.cif_stim.proofs.form.WordText.has_width.Goals as goal
-
-pub returns-in-None : goal.returns-in-None
-returns-in-None c = width_none c.args.self.now c.args.width c.in-None.is

@@ -1,5 +1,0 @@
-use Rattle.cif_stim.proofs.Tables.{names_added}
-use Rattle.cif_stim.proofs.given.NameSet.add.Goals as goal
-
-pub returns-clause-added : goal.returns-clause-added
-returns-clause-added c = names_added c.args.self.now (record { names = c.insert.new.self }) c.args.name c.in_ok-insert.ensures.updates

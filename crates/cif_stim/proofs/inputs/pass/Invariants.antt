@@ -1,8 +1,0 @@
-use Rattle.std.proofs.Common.{◌≡◌, List, map}
-use Rattle.cif_defs.specs.declared.nets.Wire.{Wire}
-use Rattle.cif_stim.specs.StimulusView.{line_seen}
-use Rattle.cif_stim.specs.Cursor.{target_of, Passes}
-use Rattle.cif_stim.proofs.inputs.pass.Given as goal
-
-abbrev pub invariant-loop-number : goal.invariant-loop-number
-invariant-loop-number l = (ports : List Wire) → l.targets ≡ map (target_of ports) (map line_seen l.lines) → Passes ports (map line_seen l.lines) l.cycle l.fn.from l.fn.setters l.number l.setters

@@ -1,6 +1,0 @@
-use Rattle.std.proofs.Common.{◌∙◌}
-use Rattle.cif_stim.proofs.Orders.{released_seen}
-use Rattle.cif_stim.proofs.stimulus.Stimulus.released.Goals as goal
-
-pub returns : goal.returns
-returns c = c.are_released.ensures ∙ released_seen c.self.inside c.args.self.now c.deref.result.now c.args.bit c.self.view_is c.deref.ensures.value

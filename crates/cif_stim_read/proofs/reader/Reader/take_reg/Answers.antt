@@ -1,0 +1,64 @@
+use Rattle.std.proofs.Common.{sym, ap, subst, ◌∙◌, refl, reverse, bytes_eq, is_some, ◌||◌}
+use Rattle.cif_defs.specs.Accepted.{netlist_of}
+use Rattle.cif_defs.specs.Stimulus.{TaintedWord, reg_line}
+use Rattle.cif_stimulus.specs.Fitting.{register_named, is_stored_by}
+use Rattle.cif_stim_read.specs.Forms.{word_seen}
+use Rattle.cif_stim_read.specs.Given.{has}
+use Rattle.cif_stimulus.specs.StimulusView.{Adds}
+use Rattle.cif_stim_read.proofs.Narrow.{register_small, register_name}
+use Rattle.cif_stim_read.proofs.LineSteps.{given_again, good, read_reg, may_start, fits_width, value_fits, taint_fits, is_given}
+use Rattle.cif_stim_read.proofs.reader.Reader.take_reg.Goals as goal
+
+pub returns-then-not-branch-clause-err : goal.returns-then-not-branch-clause-err
+returns-then-not-branch-clause-err c =
+    let raw = c.args.netlist.now in
+    let word = word_seen c.args.word.now in
+    let found = c.in-Some.ensures.is ∙ ap (register_named (netlist_of raw)) c.items.ensures in
+    let key = c.items-2.ensures ∙ c.name.ensures ∙ register_name raw c.args.cell c.in-Some.register.now found in
+    given_again raw c.args.self.now.stimulus.cycles (reverse c.args.self.now.stimulus.lines) c.args.number (reg_line c.args.cell word)
+    (may_start c.args.self.now c.is_some.result _ c.requires.state c.is_some.ensures c.if-is_some.false)
+    (sym (ap is_some found)) refl
+    (sym (ap (is_stored_by word) found) ∙ fits_width word _ _ _ _ c.has_width.ensures c.number.ensures c.if-not-has_width.false)
+    (c.requires.state.given_registers c.args.cell ∙ ap (has c.args.self.now.registers) (sym key) ∙ is_given _ _ _ c.in_ok-add.ensures.is_new c.if-not-branch.true)
+
+pub read-requires-clause-value : goal.read-requires-clause-value
+read-requires-clause-value c =
+    let raw = c.args.netlist.now in
+    let word = word_seen c.args.word.now in
+    let found = c.in-Some.ensures.is ∙ ap (register_named (netlist_of raw)) c.items.ensures in
+    value_fits word _ (fits_width word _ _ _ _ c.has_width.ensures c.number.ensures c.if-not-has_width.false) (register_small raw c.args.cell c.in-Some.register.now c.in-Some.ensures.accepted found)
+
+pub read-requires-clause-taint : goal.read-requires-clause-taint
+read-requires-clause-taint c =
+    let raw = c.args.netlist.now in
+    let word = word_seen c.args.word.now in
+    let found = c.in-Some.ensures.is ∙ ap (register_named (netlist_of raw)) c.items.ensures in
+    taint_fits word _ (fits_width word _ _ _ _ c.has_width.ensures c.number.ensures c.if-not-has_width.false) (register_small raw c.args.cell c.in-Some.register.now c.in-Some.ensures.accepted found)
+
+pub returns-clause-state : goal.returns-clause-state
+returns-clause-state c =
+    let raw = c.args.netlist.now in
+    let word = word_seen c.args.word.now in
+    let found = c.in-Some.ensures.is ∙ ap (register_named (netlist_of raw)) c.items.ensures in
+    let key = c.items-2.ensures ∙ c.name.ensures ∙ register_name raw c.args.cell c.in-Some.register.now found in
+    let P : TaintedWord → Type 0 = λ w. Adds c.args.self.now.stimulus c.push_reg.new.self (reg_line c.args.cell w) in
+    let added = subst P c.in_ok-bits.ensures c.in_ok-push_reg.ensures.ok in
+    read_reg c.args.self.now (record { stimulus = c.push_reg.new.self; opened = c.args.self.now.opened; registers = c.add.new.self; rows = c.args.self.now.rows; released = c.args.self.now.released; ports = c.args.self.now.ports }) c.args.cell word c.requires.state added refl (λ other. c.in_ok-add.ensures.added other ∙ ap (λ name. bytes_eq name other || has c.args.self.now.registers other) key) refl refl refl
+
+pub returns-clause-ok : goal.returns-clause-ok
+returns-clause-ok c =
+    let raw = c.args.netlist.now in
+    let word = word_seen c.args.word.now in
+    let found = c.in-Some.ensures.is ∙ ap (register_named (netlist_of raw)) c.items.ensures in
+    let key = c.items-2.ensures ∙ c.name.ensures ∙ register_name raw c.args.cell c.in-Some.register.now found in
+    let P : TaintedWord → Type 0 = λ w. Adds c.args.self.now.stimulus c.push_reg.new.self (reg_line c.args.cell w) in
+    let added = subst P c.in_ok-bits.ensures c.in_ok-push_reg.ensures.ok in
+    record {
+      line = reg_line c.args.cell word;
+      read = good raw c.args.self.now.stimulus.cycles (reverse c.args.self.now.stimulus.lines) c.args.number (reg_line c.args.cell word)
+          (may_start c.args.self.now c.is_some.result _ c.requires.state c.is_some.ensures c.if-is_some.false)
+          (sym (ap is_some found)) refl
+          (sym (ap (is_stored_by word) found) ∙ fits_width word _ _ _ _ c.has_width.ensures c.number.ensures c.if-not-has_width.false)
+          (c.requires.state.given_registers c.args.cell ∙ ap (has c.args.self.now.registers) (sym key) ∙ is_given _ _ _ c.in_ok-add.ensures.is_new c.if-not-branch.false);
+      added = added;
+    }

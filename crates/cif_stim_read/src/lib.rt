@@ -1,0 +1,10 @@
+//! Reading a stimulus from its text.
+#![tactic(auto)]
+
+mod form;
+mod given;
+mod lines;
+mod read;
+mod reader;
+
+pub use read::read_stimulus;

@@ -1,0 +1,4 @@
+pub mod WrittenLines
+pub mod SaidLines
+pub mod RoundTrip
+pub mod WrittenParts

@@ -1,0 +1,4 @@
+pub mod Starts
+pub mod NamePlaces
+pub mod Fits
+pub mod LineOrder

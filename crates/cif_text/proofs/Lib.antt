@@ -1,0 +1,6 @@
+pub mod BoolTests
+pub mod Pieces
+pub mod Decoding
+pub mod Digits
+pub mod Coding
+pub mod Decimals

@@ -1,0 +1,6 @@
+-- The terms of all outputs stand for the cell's formulas.
+use Rattle.rule_arith.proofs.ArithTaints.{arith_terms_are}
+use Rattle.rule_arith.proofs.taint_terms.Goals as goal
+
+pub returns : goal.returns
+returns c = arith_terms_are c.args.cell.now c.of.result _ c.of.ensures c.requires.covered c.requires.fitted c.in_ok-all_terms.ensures.stand
