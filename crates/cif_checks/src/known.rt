@@ -4,9 +4,10 @@ ghost use Rattle.cif_defs.specs.Words.{bit};
 ghost use Rattle.cif_defs.specs.Table.{kind_of as kind_of_text, param_text, operands_of, outputs_of, clocks_of};
 ghost use Rattle.cif_defs.specs.RawModule.{digits_given, number_given as number_of_cell, port_bits as bits_of_port, value_named};
 ghost use Rattle.cif_checks.specs.Checks.{number_or_0 as number_or_0_of};
-ghost use Rattle.cif_checks.specs.Known.{bits_at, rows_by};
+ghost use Rattle.cif_checks.specs.Known.{bits_at, is_connected as is_port_connected, connected_at, rows_by, parameters_by as parameters_of_kind};
 
-use crate::raw_access::{digit_given, number_given, number_or_0, port_bits, value_given};
+use crate::given::{GivenValue, digit_of_value, number_of_value, value_among, values_given};
+use crate::raw_access::{bits_or_none, connected};
 use cif_defs::{Kind, Param, ParamValue, PortRow, Raw, RawBit, RawCell, RawName, RawPort};
 use cif_kinds::table;
 use std::alloc::{AllocError, Global};
@@ -36,14 +37,18 @@ impl<'a> PortBits<'a> {
     }
 }
 
-/// A cell of a raw module with what is found of it once: its kind, and the bits that it connects to the ports of that
-/// kind. Contracts see it as the raw cell.
+/// A cell of a raw module with what is found of it once: its kind, what it gives for the parameters of that kind, and
+/// the bits that it connects to the ports of that kind. Contracts see it as the raw cell.
 #[derive(Debug, Drop)]
 pub struct KnownCell<'a> {
     raw: &'a RawCell,
     kind: Option<Kind>,
+    /// For each parameter of the kind.
+    values: Vec<GivenValue<'a>>,
     /// Operands, then outputs, then clocks.
     ports: Vec<PortBits<'a>>,
+    /// Whether each of these ports is connected.
+    connected: Vec<bool>,
     operands_end: usize,
     outputs_end: usize,
 }
@@ -56,7 +61,7 @@ impl<'a> Model for KnownCell<'a> {
 
     ghost view = { λ c. c.raw.now };
 
-    ghost invariant = { λ c. IsKnown c.raw.now c.kind c.ports.items c.operands_end c.outputs_end };
+    ghost invariant = { λ c. IsKnown c.raw.now c.kind c.values.items c.ports.items c.connected.items c.operands_end c.outputs_end };
 }
 
 /// The operands, the outputs and the clocks of a kind; none where the table of kinds lacks the type.
@@ -75,18 +80,33 @@ fn rows_of(kind: Option<Kind>) -> (&'static [PortRow], &'static [PortRow], &'sta
     }
 }
 
-/// Appends the bits that a cell connects to some ports.
+/// The parameters of a kind; none where the table of kinds lacks the type.
+fn parameters_by(kind: Option<Kind>) -> &'static [Param]
+    ensures { result.now ≡ parameters_of_kind kind }
+{
+    match kind {
+        Some(kind) => table::parameters(kind),
+        None => &[],
+    }
+}
+
+/// Appends the bits that a cell connects to some ports, and whether it connects any.
 fn push_ports<'a>(
     ports: &mut Vec<PortBits<'a>>,
+    is_connected: &mut Vec<bool>,
     cell: &'a RawCell,
     rows: &[PortRow],
 ) -> Result<(), AllocError>
-    ensures { OnOk result (ports.new.items ≡ ports.old.items ++ map (bits_of_port cell.now) rows.now) }
+    ensures bits { OnOk result (ports.new.items ≡ ports.old.items ++ map (bits_of_port cell.now) rows.now) }
+    ensures connected { OnOk result
+        (is_connected.new.items ≡ is_connected.old.items ++ map (is_port_connected cell.now) rows.now) }
 {
     for row in rows {
+        let found = connected(cell, row);
         ports.push(PortBits {
-            bits: port_bits(cell, row),
+            bits: bits_or_none(found),
         })?;
+        is_connected.push(found.is_some())?;
     }
     Ok(())
 }
@@ -97,17 +117,21 @@ impl<'a> KnownCell<'a> {
         ensures { IfOk result (λ cell. cell ≡ raw.now) }
     {
         let kind = table::kind_of(raw.kind.items());
+        let values = values_given(alloc, raw, parameters_by(kind))?;
         let (operands, outputs, clocks) = rows_of(kind);
         let mut ports = Vec::new(alloc);
-        push_ports(&mut ports, raw, operands)?;
+        let mut connected = Vec::new(alloc);
+        push_ports(&mut ports, &mut connected, raw, operands)?;
         let operands_end = ports.len();
-        push_ports(&mut ports, raw, outputs)?;
+        push_ports(&mut ports, &mut connected, raw, outputs)?;
         let outputs_end = ports.len();
-        push_ports(&mut ports, raw, clocks)?;
+        push_ports(&mut ports, &mut connected, raw, clocks)?;
         Ok(KnownCell {
             raw,
             kind,
+            values,
             ports,
+            connected,
             operands_end,
             outputs_end,
         })
@@ -156,33 +180,55 @@ impl<'a> KnownCell<'a> {
         &self.ports[self.outputs_end..]
     }
 
+    /// Whether it connects each of its operands.
+    pub(crate) fn operands_connected(&self) -> &[bool]
+        ensures { result.now ≡ connected_at operands_of self.now }
+    {
+        &self.connected[..self.operands_end]
+    }
+
+    /// Whether it connects each of its outputs.
+    pub(crate) fn outputs_connected(&self) -> &[bool]
+        ensures { result.now ≡ connected_at outputs_of self.now }
+    {
+        &self.connected[self.operands_end..self.outputs_end]
+    }
+
+    /// Whether it connects each of its clock ports.
+    pub(crate) fn clocks_connected(&self) -> &[bool]
+        ensures { result.now ≡ connected_at clocks_of self.now }
+    {
+        &self.connected[self.outputs_end..]
+    }
+
     /// The number that it gives for a parameter, or 0 where it gives none.
+    #[tactic(auto, using(crate::proofs::RawLaws::number_small))]
     pub fn number(&self, param: Param) -> u64
         ensures is { result ≡ number_or_0_of self.now param }
         ensures below_limit { result < 4294967296 }
     {
-        number_or_0(self.raw, param)
+        self.number_given(param).unwrap_or(0)
     }
 
     /// The number that it gives for a parameter; None where it gives none below 2 to the 32.
     pub fn number_given(&self, param: Param) -> Option<u64>
         ensures { result ≡ number_of_cell self.now param }
     {
-        number_given(self.raw, param)
+        number_of_value(self.value(param))
     }
 
     /// Digit `index` of what it gives for a parameter, lowest first, where x, z and missing digits are 0.
     pub fn digit(&self, param: Param, index: u64) -> bool
         ensures { result ≡ bit (digits_given self.now param) index }
     {
-        digit_given(self.raw, param, index)
+        digit_of_value(self.value(param), index)
     }
 
     /// What it gives for a parameter.
     pub fn value(&self, param: Param) -> Option<&ParamValue>
         ensures { option_map (λ v. v.now) result ≡ value_named (param_text param) self.now.parameters }
     {
-        value_given(self.raw, param)
+        value_among(self.raw, parameters_by(self.kind), &self.values, param)
     }
 }
 

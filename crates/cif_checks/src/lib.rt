@@ -5,10 +5,12 @@
 
 mod cells;
 mod fault;
+mod given;
 mod known;
 mod parameters;
 mod ports;
 pub mod raw_access;
+mod widths;
 
 pub use cells::{check_cells, port_names};
 pub use fault::{BuildFault, Spot};

@@ -1,15 +1,12 @@
 // What a raw module says of a cell: parameters in their two spellings, and connections.
-ghost use Rattle.std.specs.Prelude.{◌≡◌, ◌<◌, ◌*◌, ◌^◌, min, not, length, option_map, SomeIff, IfOk};
+ghost use Rattle.std.specs.Prelude.{◌≡◌, [], min, not, length, option_map, unwrap_or, IfOk};
 ghost use Rattle.std.specs.List.{list_all};
 ghost use Rattle.cif_defs.specs.Words.{bit, number as number_of_word};
 ghost use Rattle.cif_defs.specs.WordText.{word_of_text, is_no_digit};
 ghost use Rattle.cif_defs.specs.Table.{param_text};
-ghost use Rattle.cif_defs.specs.RawModule.{value_named as value_by_name, bits_named as bits_by_name, is_binary as is_binary_text, below_limit_int as limited, int_digits, needed_number as needed_number_of, digits_read, number_given as number_of_cell, digits_given, connected as connected_bits, port_bits as bits_of_port};
-ghost use Rattle.cif_checks.specs.Checks.{number_or_0 as number_or_0_of, row_width as row_width_of};
+ghost use Rattle.cif_defs.specs.RawModule.{value_named as value_by_name, bits_named as bits_by_name, is_binary as is_binary_text, below_limit_int as limited, int_digits, needed_number as needed_number_of, digits_read, connected as connected_bits};
 
-use cif_defs::{
-    Connection, Name, Param, ParamValue, PortRow, PortWidth, RawBit, RawCell, RawParam,
-};
+use cif_defs::{Connection, Name, Param, ParamValue, PortRow, RawBit, RawCell, RawParam};
 use cif_kinds::table;
 use std::alloc::{AllocError, Global};
 
@@ -86,7 +83,7 @@ pub fn number_below_limit(number: i128) -> Option<u64>
 
 /// The number of a value: one or more binary digits, highest first, or a whole number, below 2 to the 32.
 #[tactic(auto, unfolding(cif_defs::specs::RawModule::needed_number))]
-fn needed_number(value: &ParamValue) -> Option<u64>
+pub fn needed_number(value: &ParamValue) -> Option<u64>
     ensures { result ≡ needed_number_of value.now }
 {
     match value {
@@ -107,25 +104,6 @@ pub fn value_given<'a>(cell: &'a RawCell, param: Param) -> Option<&'a ParamValue
     ensures { option_map (λ v. v.now) result ≡ value_by_name (param_text param) cell.now.parameters }
 {
     value_named(cell.parameters.items(), table::param_name(param).as_bytes())
-}
-
-/// The number that a cell gives for a parameter; None where it gives none below 2 to the 32.
-pub fn number_given(cell: &RawCell, param: Param) -> Option<u64>
-    ensures { result ≡ number_of_cell cell.now param }
-{
-    match value_given(cell, param) {
-        Some(value) => needed_number(value),
-        None => None,
-    }
-}
-
-/// The number that a cell gives for a parameter, or 0 where it gives none.
-#[tactic(auto, using(crate::proofs::RawLaws::number_small))]
-pub fn number_or_0(cell: &RawCell, param: Param) -> u64
-    ensures is { result ≡ number_or_0_of cell.now param }
-    ensures below_limit { result < 4294967296 }
-{
-    number_given(cell, param).unwrap_or(0)
 }
 
 /// Binary digit `index` of a text that stands highest first; each byte but `1`, and each digit that is missing, is 0.
@@ -172,50 +150,6 @@ pub fn value_digit(value: &ParamValue, index: u64) -> bool
     }
 }
 
-/// Digit `index` of what a cell gives for a parameter, lowest first, where x, z and missing digits are 0.
-pub fn digit_given(cell: &RawCell, param: Param, index: u64) -> bool
-    ensures { result ≡ bit (digits_given cell.now param) index }
-{
-    match value_given(cell, param) {
-        Some(value) => value_digit(value, index),
-        None => false,
-    }
-}
-
-/// A count, times 2 to the power of another; None where that is 2 to the 64 or more.
-fn blocks(count: u64, power: u64) -> Option<u64>
-    ensures { SomeIff result (count * 2 ^ power < 2 ^ 64) (count * 2 ^ power) }
-{
-    if count == 0 {
-        return Some(0);
-    }
-    if power >= 64 {
-        return None;
-    }
-    count.checked_mul(1 << power)
-}
-
-/// How many bits a port has by the parameters of its cell, of which those that aren't given count as 0; None where
-/// they are 2 to the 64 or more.
-pub fn row_width(cell: &RawCell, row: &PortRow) -> Option<u64>
-    ensures { SomeIff result (row_width_of cell.now row.now < 2 ^ 64) (row_width_of cell.now row.now) }
-{
-    match row.width {
-        PortWidth::One => Some(1),
-        PortWidth::Of(param) => Some(number_or_0(cell, param)),
-        PortWidth::Sum(first, second) => {
-            number_or_0(cell, first).checked_add(number_or_0(cell, second))
-        }
-        PortWidth::Product(first, second) => {
-            number_or_0(cell, first).checked_mul(number_or_0(cell, second))
-        }
-        PortWidth::Blocks(count, power) => blocks(
-            number_or_0(cell, count),
-            number_or_0(cell, power),
-        ),
-    }
-}
-
 /// A copy of a name.
 pub fn name_copy(alloc: Global, bytes: &[u8]) -> Result<Name, AllocError>
     ensures { IfOk result (λ name. name ≡ bytes.now) }
@@ -231,11 +165,11 @@ pub fn connected<'a>(cell: &'a RawCell, row: &PortRow) -> Option<&'a [RawBit]>
     bits_named(cell.connections.items(), name)
 }
 
-/// The bits that a cell connects to a port, lowest first; no bits where the port isn't connected.
-pub fn port_bits<'a>(cell: &'a RawCell, row: &PortRow) -> &'a [RawBit]
-    ensures { result.now ≡ bits_of_port cell.now row.now }
+/// The bits of a port, lowest first; none where it isn't connected.
+pub fn bits_or_none<'a>(found: Option<&'a [RawBit]>) -> &'a [RawBit]
+    ensures { result.now ≡ unwrap_or (option_map (λ bits. bits.now) found.entry) [] }
 {
-    match connected(cell, row) {
+    match found {
         Some(bits) => bits,
         None => &[],
     }

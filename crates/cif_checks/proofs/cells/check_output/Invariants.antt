@@ -5,4 +5,4 @@ use Rattle.cif_checks.proofs.cells.check_output.Given as goal
 
 abbrev pub invariant-loop-index : goal.invariant-loop-index
 invariant-loop-index l =
-    first_fault_from (λ i b. fault_if (is_constant b) (ConstantOutput (cell_spot l.cell l.row) i)) l.index (drop l.index l.bit-items) ≡ constant_output l.cell l.row
+    first_fault_from (λ i b. fault_if (is_constant b) (ConstantOutput (cell_spot l.cell l.row) i)) l.index (drop l.index l.bits) ≡ constant_output l.cell l.row

@@ -3,5 +3,5 @@ use Rattle.cif_checks.specs.Checks.{first_fault}
 use Rattle.cif_checks.specs.PortChecks.{row_fault}
 use Rattle.cif_checks.proofs.cells.check_rows.Given as goal
 
-abbrev pub invariant-loop-row : goal.invariant-loop-row
-invariant-loop-row l = first_fault (row_fault l.check l.cell l.kind) (drop l.row-index l.rows) ≡ first_fault (row_fault l.check l.cell l.kind) l.rows
+abbrev pub invariant-loop-index : goal.invariant-loop-index
+invariant-loop-index l = first_fault (row_fault l.check l.cell l.kind) (drop l.index l.group.rows.now) ≡ first_fault (row_fault l.check l.cell l.kind) l.group.rows.now
