@@ -1,5 +1,5 @@
 // Stored words: what a register or a memory holds in one cycle.
-ghost use Rattle.std.specs.Prelude.{◌≡◌, ◌+◌, ◌<◌, ◌≤◌, ◌^◌, length, slice_set, IfOk, OnOk, OnErr};
+ghost use Rattle.std.specs.Prelude.{◌≡◌, ◌+◌, ◌<◌, ◌≤◌, ◌^◌, true, length, slice_set, ◌↔◌, IsTrue, IfOk, OnOk, OnErr};
 ghost use Rattle.cif_defs.specs.Words.{bit, word};
 
 use crate::bits::long_bit;
@@ -15,6 +15,13 @@ enum Kept {
     Plain(Vec<bool>),
     /// In pages that later cycles share, as those of a memory, of which a cycle writes few.
     Shared(Paged<bool>),
+}
+
+/// Whether two words have the same bits.
+fn are_same(word: &[bool], other: &[bool]) -> bool
+    ensures { IsTrue result ↔ (word.now ≡ other.now) }
+{
+    word == other
 }
 
 /// The word that a register or a memory stores, or its stored taint. Contracts see the list of its bits, lowest first.
@@ -105,6 +112,16 @@ impl StateWord {
             Kept::Shared(pages) => Kept::Shared(pages.share(alloc)?),
         };
         Ok(StateWord { kept })
+    }
+
+    /// Whether another word is known to have the same bits. Words of memories are not compared, which would take long.
+    pub fn is_known_same(&self, other: &StateWord) -> bool
+        ensures { result ≡ true → self.now ≡ other.now }
+    {
+        match (&self.kept, &other.kept) {
+            (Kept::Plain(word), Kept::Plain(held)) => are_same(word, held),
+            _ => false,
+        }
     }
 
     /// Writes a bit. A word that shared the bit's page keeps its own; where the bit is the one that stands there, nothing

@@ -1,6 +1,8 @@
 // Registers and memories: both sides of their limits, the forms that are refused, and their clocks.
 
 use crate::driver::assert_tables;
+use cif_bits::Bits;
+use rule_state::read_taint;
 use std::test::Fail;
 
 /// A register of two bits with every parameter and every port that a register has. The inputs are the bits 2, 3, 4 and 5,
@@ -160,4 +162,26 @@ fn memories(rt: HostRuntime) -> Result<(), Fail> {
         (TWO_WRITES, TWO_WRITES_ROWS),
     ];
     assert_tables(&rt, rt.alloc(), "", &tables)
+}
+
+/// The taint of an address, the flag of a memory, and the taint of a read of an untainted word of two bits.
+const READS: [(&str, bool, &str); 4] = [
+    ("00", false, "00"),
+    ("10", false, "11"),
+    ("00", true, "11"),
+    ("01", true, "11"),
+];
+
+/// A tainted address bit taints a whole read, and so does the flag of a memory.
+#[test]
+fn taints_of_reads(rt: HostRuntime) -> Result<(), Fail> {
+    let alloc = rt.alloc();
+    for (address, flag, wanted) in READS {
+        let address_taint = Bits::from_text(alloc, address.as_bytes())?;
+        let stored = Bits::zeros(alloc, 2)?;
+        let taint = read_taint(alloc, &address_taint, flag, &stored)?;
+        let text = taint.to_text(alloc)?;
+        assert_eq!(rt; text.as_slice(), wanted.as_bytes(), "{address} {flag}");
+    }
+    Ok(())
 }

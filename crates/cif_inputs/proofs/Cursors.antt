@@ -1,8 +1,8 @@
 -- A cursor over the lines of a stimulus, line by line.
-use Rattle.std.specs.Prelude.{ℕ, zero, suc, ◌+◌, ◌<◌, ◌≤◌, ◌≡◌, ◌≢◌, ◌⊎◌, nat_le, Bool, true, false, List, [], ◌∷◌, map, length, get_or, drop, replicate, bytes_eq, Option, Some, None, IfSome, refl}
+use Rattle.std.specs.Prelude.{ℕ, zero, suc, ◌+◌, ◌<◌, ◌≤◌, ◌≡◌, ◌≢◌, ◌⊎◌, nat_le, Bool, true, false, List, [], ◌∷◌, ◌++◌, map, length, get_or, take, drop, replicate, bytes_eq, Option, Some, None, IfSome, refl}
 use Rattle.std.proofs.Common.{arith, sym, ap, subst, ◌∙◌, inl, inr, if◌then◌else◌}
 use Rattle.std.proofs.Math.ListN.{set}
-use Rattle.std.proofs.lemmas.List.{at_drop_more, get_or_default, get_or-set_same, get_or-set_other, length-map, get_or-map}
+use Rattle.std.proofs.lemmas.List.{at_drop_more, take_more, take_all, map-append, get_or_default, get_or-set_same, get_or-set_other, length-map, get_or-map}
 use Rattle.std.proofs.lemmas.Bool.{false_from_ne_true}
 use Rattle.std.proofs.lemmas.Bool.Decides.{nat_tests}
 use Rattle.std.proofs.lemmas.Slice.Eq.{bytes_eq-Decides}
@@ -10,8 +10,8 @@ use Rattle.cif_defs.specs.declared.nets.Wire.{Wire}
 use Rattle.cif_defs.specs.Netlist.{Netlist, no_wire}
 use Rattle.cif_defs.specs.Stimulus.{Stimulus, StimLine as LineData, TaintedWord, unset, held_by, input_at, reg_line, mem_line, release_line, cycle_line, set_line}
 use Rattle.cif_stimulus.specs.StimulusView.{line_seen}
-use Rattle.cif_stimulus.specs.Names.{place_named, port_name}
-use Rattle.cif_inputs.specs.Cursor.{target_of, word_of, word_by, is_later_line, setter_at, setters_after, Passes, Stops, IsMapOf, IsAt, cycle_of}
+use Rattle.cif_stimulus.specs.Names.{place_named, port_name, target_of, line_at}
+use Rattle.cif_inputs.specs.Cursor.{word_of, word_by, is_later_line, setter_at, setters_after, Passes, Stops, IsMapOf, IsAt, cycle_of}
 use Rattle.cif_stimulus.specs.Held.{word_set, word_set_at}
 use Rattle.cif_inputs.specs.declared.inputs.InputMap.{InputMap}
 use Rattle.cif_inputs.specs.declared.inputs.Inputs.{Inputs}
@@ -101,6 +101,21 @@ passes_line ports lines targets k from i first setters after x later so_far h is
 pub if_some : (o : Option ℕ) (n : ℕ) → ((h : ℕ) → o ≡ Some h → h < n) → IfSome o (λ t. t < n)
 if_some None n k = tt
 if_some (Some h) n k = k h refl
+
+-- ---- the ports of lines, one after another
+
+pub targets_more : (ports : List Wire) (lines : List LineData) (i : ℕ) (before after : List (Option ℕ)) (target : Option ℕ) → i < length lines → before ≡ map (target_of ports) (take i lines) → target ≡ target_of ports (line_at lines i) → after ≡ before ++ target ∷ [] → after ≡ map (target_of ports) (take (i + 1) lines)
+targets_more ports lines i before after target h was is made =
+    made
+    ∙ ap (λ (ts : List (Option ℕ)). ts ++ target ∷ []) was
+    ∙ ap (λ (t : Option ℕ). map (target_of ports) (take i lines) ++ t ∷ []) is
+    ∙ sym (ap (map (target_of ports)) (take_more lines i (cycle_line 0) h) ∙ map-append (target_of ports) (take i lines) (line_at lines i ∷ []))
+
+pub targets_all : (ports : List Wire) (lines : List LineData) (i : ℕ) (targets : List (Option ℕ)) → length lines ≤ i → targets ≡ map (target_of ports) (take i lines) → targets ≡ map (target_of ports) lines
+targets_all ports lines i targets h is = is ∙ ap (map (target_of ports)) (take_all i lines h)
+
+pub as_many_read : (lines : List StimLine) (s : Stimulus) → map line_seen lines ≡ s.lines → length lines ≡ length s.lines
+as_many_read lines s seen = sym (length-map lines line_seen) ∙ ap (λ (ls : List LineData). length ls) seen
 
 -- ---- a cursor
 

@@ -4,17 +4,9 @@ use Rattle.cif_defs.specs.Netlist.{Netlist}
 use Rattle.cif_defs.specs.Order.{AreWiresInOrder}
 use Rattle.cif_defs.specs.declared.nets.Wire.{Wire}
 use Rattle.cif_defs.specs.Stimulus.{Stimulus as StimulusData, StimLine as LineData, TaintedWord, unset, held_by, reg_line, mem_line, release_line, cycle_line, set_line}
-use Rattle.cif_stimulus.specs.Names.{place_named}
+use Rattle.cif_stimulus.specs.Names.{place_named, target_of}
 use Rattle.cif_inputs.specs.declared.inputs.InputMap.{InputMap}
 use Rattle.cif_inputs.specs.declared.inputs.Inputs.{Inputs}
-
--- the place of the port that a line sets
-abbrev pub target_of : List Wire → LineData → Option ℕ
-target_of ports (set_line name w) = place_named ports name
-target_of ports (reg_line name w) = None
-target_of ports (mem_line name address w) = None
-target_of ports (release_line name bits) = None
-target_of ports (cycle_line k) = None
 
 -- the names of a stimulus, looked up among the ports of a netlist
 pub record IsMapOf (n : Netlist) (s : StimulusData) (names : InputMap) : Type 0 where

@@ -3,20 +3,19 @@ ghost use Rattle.std.specs.Prelude.{◌≡◌, ◌+◌, ◌<◌, ◌≤◌, ◌^
 ghost use Rattle.cif_defs.specs.Words.{bit};
 ghost use Rattle.cif_defs.specs.Accepted.{netlist_of};
 ghost use Rattle.cif_defs.specs.Netlist.{Netlist as NetlistData};
-ghost use Rattle.cif_defs.specs.Order.{AreWiresInOrder};
 ghost use Rattle.cif_defs.specs.declared.nets.Wire.{Wire};
 ghost use Rattle.cif_defs.specs.Stimulus.{Stimulus as StimulusData, input_at};
 ghost use Rattle.cif_inputs.specs.declared.inputs.InputMap.{InputMap as NamesData};
+ghost use Rattle.cif_stimulus.specs.Names.{target_of};
 ghost use Rattle.cif_stimulus.specs.StimulusView.{line_seen};
-ghost use Rattle.cif_inputs.specs.Cursor.{IsMapOf, IsAt, Passes, Stops, target_of, is_later_line, setters_after, cycle_of};
+ghost use Rattle.cif_inputs.specs.Cursor.{IsMapOf, IsAt, Passes, Stops, is_later_line, setters_after, cycle_of};
 
 use cif_bits::NoMemory;
 use cif_cells::Netlist;
-use cif_defs::{Wire, place_in_order};
 use cif_stimulus::{Pair, StimLine, Stimulus, set_pair};
 use std::alloc::{AllocError, Global};
 
-/// The names of a stimulus, looked up once among the input ports of a netlist.
+/// The names of a stimulus as input ports of a netlist.
 #[derive(Drop)]
 pub struct InputMap {
     // For each line the place of the port that it sets.
@@ -33,33 +32,19 @@ pub struct Inputs {
     setters: Vec<Option<usize>>,
 }
 
-/// The place of the port that a line sets.
-fn target(ports: &[Wire], line: &StimLine) -> Option<usize>
-    requires { AreWiresInOrder ports.now }
-    ensures { result ≡ target_of ports.now (line_seen line.now) }
-{
-    match line {
-        StimLine::Set { port, .. } => place_in_order(ports, port.items()),
-        StimLine::Reg { .. }
-        | StimLine::Mem { .. }
-        | StimLine::Release { .. }
-        | StimLine::Cycle(_) => None,
-    }
-}
-
 /// For each line the place of the port that it sets.
 fn targets_of(
     alloc: Global,
-    ports: &[Wire],
-    lines: &[StimLine],
+    netlist: &Netlist,
+    stimulus: &Stimulus,
 ) -> Result<Vec<Option<usize>>, AllocError>
-    requires { AreWiresInOrder ports.now }
     ensures { IfOk result (λ v. v.items
-        ≡ map (target_of ports.now) (map line_seen lines.now)) }
+        ≡ map (target_of (netlist_of netlist.now).inputs) stimulus.now.lines) }
 {
-    let mut targets = Vec::with_capacity(alloc, lines.len())?;
-    for line in lines {
-        targets.push(target(ports, line))?;
+    let count = stimulus.lines().len();
+    let mut targets = Vec::with_capacity(alloc, count)?;
+    for number in 0..count {
+        targets.push(stimulus.target(netlist, number))?;
     }
     Ok(targets)
 }
@@ -121,11 +106,12 @@ fn pass(
 }
 
 impl InputMap {
-    /// Looks the names of a stimulus up.
+    /// Takes the places of ports that the stimulus keeps. A name is sought where none is kept, or that of another netlist.
     pub fn of(alloc: Global, netlist: &Netlist, stimulus: &Stimulus) -> Result<InputMap, NoMemory>
         ensures { IfOk result (λ m. IsMapOf (netlist_of netlist.now) stimulus.now m) }
     {
-        let targets = targets_of(alloc, netlist.inputs(), stimulus.lines())?;
+        let _in_order = netlist.inputs();
+        let targets = targets_of(alloc, netlist, stimulus)?;
         Ok(InputMap { targets })
     }
 }

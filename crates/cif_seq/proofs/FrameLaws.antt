@@ -20,11 +20,15 @@ use Rattle.cif_defs.proofs.WordLaws.{le_or_lt}
 use Rattle.cif_inputs.specs.Cursor.{IsAt, IsMapOf, cycle_of}
 use Rattle.cif_inputs.specs.declared.inputs.InputMap.{InputMap}
 use Rattle.cif_inputs.specs.declared.inputs.Inputs.{Inputs}
-use Rattle.cif_seq.specs.Cases.{CaseOf, HoldsFrame, net_of}
+use Rattle.cif_seq.specs.Cases.{CaseOf, net_of}
+use Rattle.cif_seq.specs.FrameView.{HoldsFrame}
 use Rattle.cif_seq.specs.Inputs.{StandsAt}
-use Rattle.cif_seq.specs.Stored.{IsStored}
-use Rattle.cif_seq.proofs.StateWidths.{is_stored}
-use Rattle.cif_seq.proofs.EvaluationSteps.{same_function}
+use Rattle.cif_seq.specs.GivenAt.{given_by}
+use Rattle.cif_seq.specs.Stored.{given_words}
+use Rattle.cif_readers.specs.Reads.{Notes}
+use Rattle.cif_shown.specs.Shown.{Shows, WillRest}
+use Rattle.cif_shown.proofs.Unique.{taints_unique, values_unique}
+use Rattle.cif_seq.proofs.Slices.{same_function}
 
 -- ---- the cursor
 
@@ -60,13 +64,18 @@ frame_taints n s k stored stored_taints flags bits e f g h = λ b.
     ∙ ap (λ (ws : List Word). settled_taint n ws (value_in n ws (input_value n s k)) (record { stored = stored_taints; flags = flags }) (input_taint n s k) (is_released s.lines) (length n.cells) b) e
     ∙ ap (λ (x : TaintState). settled_taint n (state n s k) (value n s k) x (input_taint n s k) (is_released s.lines) (length n.cells) b) (same_state (record { stored = stored_taints; flags = flags }) (taint_state n s k) f g)
 
-pub holds_frame : (c : CaseOf) (k : ℕ) (values taints : List Bool) (stored stored_taints : List Word) (flags : List Bool) (inputs : Inputs) → stored ≡ state (net_of c) c.stimulus k → stored_taints ≡ (taint_state (net_of c) c.stimulus k).stored
-    → flags ≡ (taint_state (net_of c) c.stimulus k).flags → StandsAt (net_of c) c.stimulus k inputs
-    → ((b : ℕ) → bit values b ≡ value_in (net_of c) stored (input_value (net_of c) c.stimulus (cycle_of inputs)) b)
-    → ((b : ℕ) → bit taints b ≡ settled_taint (net_of c) stored (value_in (net_of c) stored (input_value (net_of c) c.stimulus (cycle_of inputs))) (record { stored = stored_taints; flags = flags }) (input_taint (net_of c) c.stimulus (cycle_of inputs)) (is_released c.stimulus.lines) (length (net_of c).cells) b)
-    → HoldsFrame c k values taints stored stored_taints flags inputs
-holds_frame c k values taints stored stored_taints flags inputs e f g at hv ht =
+pub holds_frame : (c : CaseOf) (k : ℕ) (values taints : List Bool) (stored stored_taints : List Word) (flags begun begun_taints begun_marks due : List Bool) (inputs : Inputs) → stored ≡ state (net_of c) c.stimulus k → stored_taints ≡ (taint_state (net_of c) c.stimulus k).stored
+    → flags ≡ (taint_state (net_of c) c.stimulus k).flags → StandsAt (net_of c) c.stimulus k inputs → IsWired (net_of c) → IsLevelled (net_of c) c.order
+    → ((b : ℕ) → Shows (net_of c) (given_by c stored stored_taints flags (input_value (net_of c) c.stimulus (cycle_of inputs)) (input_taint (net_of c) c.stimulus (cycle_of inputs))) values taints b)
+    → length values ≡ length (net_of c).drivers → length taints ≡ length (net_of c).drivers → length due ≡ length (net_of c).cells → WillRest (net_of c) (given_words stored stored_taints flags) begun begun_taints begun_marks
+    → Notes (net_of c) begun begun_taints values taints begun_marks due → HoldsFrame c k values taints stored stored_taints flags due inputs
+unfolding WillRest
+holds_frame c k values taints stored stored_taints flags begun begun_taints begun_marks due inputs e f g at w o h sv st sd rest notes =
     let n : Netlist = net_of c in let s : Stimulus = c.stimulus in
+    let hv : (b : ℕ) → bit values b ≡ value_in n stored (input_value n s (cycle_of inputs)) b = values_unique n c.order (given_by c stored stored_taints flags (input_value n s (cycle_of inputs)) (input_taint n s (cycle_of inputs))) values taints w o h in
+    let ht : (b : ℕ) → bit taints b ≡ settled_taint n stored (value_in n stored (input_value n s (cycle_of inputs))) (record { stored = stored_taints; flags = flags }) (input_taint n s (cycle_of inputs)) (is_released s.lines) (length n.cells) b =
+    (λ b. taints_unique n c.order (given_by c stored stored_taints flags (input_value n s (cycle_of inputs)) (input_taint n s (cycle_of inputs))) values taints w o h b
+    ∙ ap (λ (v : ℕ → Bool). settled_taint n stored v (record { stored = stored_taints; flags = flags }) (input_taint n s (cycle_of inputs)) (is_released s.lines) (length n.cells) b) (same_function (bit values) _ hv)) in
     record {
       shown = record {
         net_values = frame_values n s k stored values e (subst (λ j. (b : ℕ) → bit values b ≡ value_in n stored (input_value n s j) b) at.cycle hv);
@@ -77,6 +86,11 @@ holds_frame c k values taints stored stored_taints flags inputs e f g at hv ht =
         memory_flags = g;
       };
       at = at;
+      as_many_values = sv;
+      as_many_taints = st;
+      as_many_due = sd;
+      shows = subst (λ j. (b : ℕ) → Shows n (given_by c stored stored_taints flags (input_value n s j) (input_taint n s j)) values taints b) at.cycle h;
+      resting = rest values taints due notes;
     }
 
 -- ---- from frame to frame

@@ -1,10 +1,11 @@
 pub mod PutWords
 pub mod Evaluated
 pub mod Found
-pub mod EvaluationSteps
+pub mod Slices
+pub mod Settling
 pub mod CaseLaws
 pub mod StateWidths
 pub mod FrameLaws
-pub mod StartLaws
-pub mod StartWords
 pub mod CellStates
+pub mod Moved
+pub mod NextFrames

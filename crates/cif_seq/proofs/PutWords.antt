@@ -98,3 +98,14 @@ put_words_step marks outs ws bits i h = rw add-one (step marks outs ws bits i h)
   step marks (t ∷ outs) (x ∷ ws) bits zero h = refl
   step marks (t ∷ outs) [] bits (suc i) h = sym (ap (λ (x : List Word). put_words marks (drop i outs) x bits) (drop_nil i)) ∙ step marks outs [] bits i (omega arith)
   step marks (t ∷ outs) (x ∷ ws) bits (suc i) h = step marks outs ws bits i (omega arith)
+
+-- the same, where the rest of a write is what is left to write
+pub put_word_next : (marks : List Bool) (ts : List (Option ℕ)) (w : Word) (bits new whole : List Bool) (i : ℕ) (x : Bool) → i < length ts → x ≡ bit w i → new ≡ put marks (get_or ts i None) x bits → put_word marks (drop i ts) (drop i w) bits ≡ whole
+    → put_word marks (drop (i + 1) ts) (drop (i + 1) w) new ≡ whole
+put_word_next marks ts w bits new whole i x h e k q =
+    ap (λ (b : List Bool). put_word marks (drop (i + 1) ts) (drop (i + 1) w) b) (k ∙ ap (λ y. put marks (get_or ts i None) y bits) e) ∙ sym (put_word_step marks ts w bits i h) ∙ q
+
+pub put_words_next : (marks : List Bool) (outs : List (List (Option ℕ))) (ws : List Word) (bits new whole : List Bool) (i : ℕ) (out : List (Option ℕ)) (w : Word) → i < length outs → out ≡ get_or outs i [] → w ≡ get_or ws i [] → new ≡ put_word marks out w bits
+    → put_words marks (drop i outs) (drop i ws) bits ≡ whole → put_words marks (drop (i + 1) outs) (drop (i + 1) ws) new ≡ whole
+put_words_next marks outs ws bits new whole i out w h eo ew k q =
+    ap (λ (b : List Bool). put_words marks (drop (i + 1) outs) (drop (i + 1) ws) b) (k ∙ ap (λ (o : List (Option ℕ)). put_word marks o w bits) eo ∙ ap (λ (u : Word). put_word marks (get_or outs i []) u bits) ew) ∙ sym (put_words_step marks outs ws bits i h) ∙ q

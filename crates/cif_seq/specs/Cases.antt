@@ -1,5 +1,5 @@
 -- Cases and frames, as contracts see them.
-use Rattle.std.specs.Prelude.{ℕ, Bool, List}
+use Rattle.std.specs.Prelude.{ℕ, ◌≡◌, Bool, List, length}
 use Rattle.cif_defs.specs.Words.{Word}
 use Rattle.cif_defs.specs.Accepted.{netlist_of}
 use Rattle.cif_defs.specs.Netlist.{Netlist}
@@ -8,6 +8,8 @@ use Rattle.cif_defs.specs.TaintRun.{IsFrame}
 use Rattle.cif_defs.specs.declared.raw_module.Raw.{Raw}
 use Rattle.cif_inputs.specs.declared.inputs.Inputs.{Inputs}
 use Rattle.cif_seq.specs.Inputs.{StandsAt}
+use Rattle.cif_seq.specs.Stored.{given_words}
+use Rattle.cif_shown.specs.Shown.{AreResting}
 
 -- an accepted module, a levelled order of its cells, and a stimulus
 pub record CaseOf : Type 0 where
@@ -25,8 +27,3 @@ pub record FrameOf : Type 0 where
 
 abbrev pub frame_of : CaseOf → ℕ → FrameOf
 frame_of c k = record { case = c; cycle = k }
-
--- the fields of a frame hold what its cycle has by definition, and its cursor stands at the cycle
-pub record HoldsFrame (c : CaseOf) (k : ℕ) (values taints : List Bool) (stored stored_taints : List Word) (flags : List Bool) (inputs : Inputs) : Type 0 where
-  pub shown : IsFrame (net_of c) c.stimulus k values taints stored stored_taints flags
-  pub at : StandsAt (net_of c) c.stimulus k inputs

@@ -1,8 +1,8 @@
 pub mod Writes
-pub mod Settled
 pub mod Stored
 pub mod Inputs
 pub mod Cases
 pub mod CaseView
-pub mod Starts
 pub mod States
+pub mod GivenAt
+pub mod FrameView

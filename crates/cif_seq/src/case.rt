@@ -6,19 +6,26 @@ ghost use Rattle.cif_defs.specs.Accepted.{netlist_of};
 ghost use Rattle.cif_defs.specs.Fitted.{IsFitted};
 ghost use Rattle.cif_defs.specs.Kinds.{role_of};
 ghost use Rattle.cif_defs.specs.Loop.{IsLevelled};
-ghost use Rattle.cif_defs.specs.Netlist.{IsWired, cell_at};
+ghost use Rattle.cif_defs.specs.Netlist.{IsWired, cell_at, role_at};
 ghost use Rattle.cif_defs.specs.Stimulus.{is_bit, is_released};
 ghost use Rattle.cif_kinds.specs.StateCells.{HasMemoryNumbers};
 ghost use Rattle.cif_inputs.specs.Cursor.{IsMapOf};
 ghost use Rattle.cif_stimulus.specs.Fitting.{fits_of};
 ghost use Rattle.cif_stimulus.specs.StimulusView.{line_seen};
 ghost use Rattle.cif_seq.specs.Cases.{net_of};
-ghost use Rattle.cif_seq.specs.Settled.{Marks};
+ghost use Rattle.cif_readers.specs.Tables.{AreReaders};
+ghost use Rattle.cif_shapes.specs.Shapes.{shape_of};
+ghost use Rattle.cif_shapes.specs.CellRules.{rule_of};
+ghost use Rattle.cif_shown.specs.Evaluates.{Marks};
+ghost use Rattle.cif_shown.specs.Shown.{AreSources};
 
+use crate::sources::sources_of;
 use cif_bits::NoMemory;
 use cif_cells::{Cell, Netlist, Role, Src};
 use cif_inputs::InputMap;
 use cif_level::Levels;
+use cif_readers::Readers;
+use cif_shapes::{Rules, TaintRule};
 use cif_stimulus::{StimLine, Stimulus};
 use std::alloc::{AllocError, Global};
 use std::marker::Model;
@@ -31,6 +38,11 @@ pub struct Case {
     stimulus: Stimulus,
     released: Vec<bool>,
     names: InputMap,
+    // The net bits of input ports and of registers without asynchronous reset.
+    sources: Vec<u32>,
+    readers: Readers,
+    // The terms of the taint of each combinational cell.
+    rules: Rules,
 }
 
 impl Model for Case {
@@ -81,6 +93,13 @@ fn mark_lines(marks: &mut [bool], lines: &[StimLine])
     }
 }
 
+/// The rules of a netlist's cells.
+fn rules_of(alloc: Global, netlist: &Netlist) -> Result<Rules, NoMemory>
+    ensures { IfOk result (λ r. r ≡ map rule_of (netlist_of netlist.now).cells) }
+{
+    Rules::of(alloc, netlist.cells())
+}
+
 impl Case {
     /// The case of these parts: the levels are the netlist's, and the stimulus fits it.
     pub fn new(
@@ -96,12 +115,18 @@ impl Case {
     {
         let released = released_marks(alloc, netlist.bits(), stimulus.lines())?;
         let names = InputMap::of(alloc, &netlist, &stimulus)?;
+        let sources = sources_of(alloc, &netlist)?;
+        let readers = Readers::of(alloc, &netlist)?;
+        let rules = rules_of(alloc, &netlist)?;
         Ok(Case {
             netlist,
             levels,
             stimulus,
             released,
             names,
+            sources,
+            readers,
+            rules,
         })
     }
 
@@ -149,6 +174,30 @@ impl Case {
         ensures { IsMapOf (net_of self.now) self.now.stimulus result.now }
     {
         &self.names
+    }
+
+    /// The net bits of input ports and of registers without asynchronous reset: what they hold stands before any cell is
+    /// evaluated.
+    pub(crate) fn sources(&self) -> &[u32]
+        ensures { AreSources (net_of self.now) result.now }
+    {
+        &self.sources
+    }
+
+    /// Which cells read each net bit.
+    pub(crate) fn readers(&self) -> &Readers
+        ensures { AreReaders (net_of self.now) result.now }
+    {
+        &self.readers
+    }
+
+    /// The terms of the taint of a combinational cell, made once for all cells of its shape.
+    pub(crate) fn rule(&self, number: u32) -> &TaintRule
+        requires inside { number < length (net_of self.now).cells }
+        requires role { role_at (net_of self.now) number ≡ Role.Combinational }
+        ensures { result.now ≡ shape_of (cell_at (net_of self.now) number) }
+    {
+        self.rules.of_cell(number as usize)
     }
 
     /// A cell of the netlist.

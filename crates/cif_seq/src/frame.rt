@@ -1,23 +1,27 @@
 // Frames: what a case shows in one cycle.
-ghost use Rattle.std.specs.Prelude.{◌≡◌, ◌+◌, ◌<◌, false, [], get_or, IfOk};
+ghost use Rattle.std.specs.Prelude.{◌≡◌, ◌+◌, ◌<◌, true, false, [], get_or, length, replicate, IfOk};
 ghost use Rattle.cif_defs.specs.Agreement.{AgreesUpTo};
 ghost use Rattle.cif_defs.specs.Stimulus.{Stimulus};
 ghost use Rattle.cif_defs.specs.Words.{bit};
 ghost use Rattle.cif_defs.specs.Run.{state, value};
 ghost use Rattle.cif_defs.specs.TaintRun.{taint, taint_state, state_value, state_taint};
 ghost use Rattle.cif_seq.specs.Cases.{frame_of, net_of};
+ghost use Rattle.cif_seq.specs.GivenAt.{given_at};
 ghost use Rattle.cif_seq.specs.Inputs.{StandsAt};
+ghost use Rattle.cif_seq.specs.Stored.{given_of};
+ghost use Rattle.cif_shown.specs.Shown.{MayBegin, WillRest};
+ghost use Rattle.cif_defs.specs.Accepted.{netlist_of};
 
 use crate::case::Case;
 use crate::inputs::{first_inputs, next_inputs};
-use crate::settle::{settled, state_bit};
+use crate::settle::{NetBits, settled, state_bit};
 use crate::state::{next_words, start_words};
 use cif_bits::NoMemory;
-use cif_cells::NetBit;
+use cif_cells::{NetBit, Netlist};
 use cif_cycle::{StoredWords, bit_of};
 use cif_inputs::Inputs;
 use cif_stimulus::Pair;
-use std::alloc::Global;
+use std::alloc::{AllocError, Global};
 use std::marker::Model;
 use std::sync::Arc;
 
@@ -31,34 +35,44 @@ pub struct Frame {
     taints: Vec<bool>,
     stored: StoredWords,
     inputs: Inputs,
+    // For each cell whether it may store something else next.
+    due: Vec<bool>,
 }
 
 impl Model for Frame {
-    ghost use Rattle.cif_seq.specs.Cases.{FrameOf, HoldsFrame};
+    ghost use Rattle.cif_seq.specs.Cases.{FrameOf};
+    ghost use Rattle.cif_seq.specs.FrameView.{HoldsFrame};
 
     ghost Value = { FrameOf };
 
     ghost view = { λ f. record { case = f.case.value; cycle = f.cycle } };
 
-    ghost invariant = { λ f. HoldsFrame f.case.value f.cycle f.values.items f.taints.items f.stored.values.items f.stored.taints.items f.stored.flags.items f.inputs };
+    ghost invariant = { λ f. HoldsFrame f.case.value f.cycle f.values.items f.taints.items f.stored.values.items f.stored.taints.items f.stored.flags.items f.due.items f.inputs };
 }
 
-/// The frame of a cycle, from the words that the cells store in it, and the inputs at it.
+/// The frame of a cycle, from the words that the cells store in it, the inputs at it, and bits with which it may begin.
 fn frame_with(
     alloc: Global,
     case: &Arc<Case>,
     cycle: u64,
     stored: StoredWords,
     inputs: Inputs,
+    begun: NetBits,
 ) -> Result<Frame, NoMemory>
     requires values { stored.values.items ≡ state (net_of case.now.value) case.now.value.stimulus cycle }
     requires taints { stored.taints.items ≡ (taint_state (net_of case.now.value) case.now.value.stimulus cycle).stored }
     requires flags { stored.flags.items ≡ (taint_state (net_of case.now.value) case.now.value.stimulus cycle).flags }
     requires at { StandsAt (net_of case.now.value) case.now.value.stimulus cycle inputs }
+    requires as_many_values { length begun.values.items ≡ length (net_of case.now.value).drivers }
+    requires as_many_taints { length begun.taints.items ≡ length (net_of case.now.value).drivers }
+    requires as_many_marks { length begun.marks.items ≡ length (net_of case.now.value).cells }
+    requires begins { MayBegin (net_of case.now.value) (given_at case.now.value stored inputs) case.now.value.order begun.marks.items begun.values.items begun.taints.items }
+    requires resting { WillRest (net_of case.now.value) (given_of stored) begun.values.items begun.taints.items begun.marks.items }
     ensures { IfOk result (λ f. f ≡ frame_of case.now.value cycle) }
 {
     let case = Arc::try_clone(case)?;
-    let bits = settled(alloc, &case, &stored, &inputs)?;
+    let _levels = case.levels();
+    let bits = settled(alloc, &case, &stored, &inputs, begun)?;
     Ok(Frame {
         case,
         cycle,
@@ -66,6 +80,22 @@ fn frame_with(
         taints: bits.taints,
         stored,
         inputs,
+        due: bits.marks,
+    })
+}
+
+/// Net bits that are all 0 and untainted, where all cells are marked.
+fn clear_bits(alloc: Global, netlist: &Netlist) -> Result<NetBits, AllocError>
+    ensures values { IfOk result (λ o. o.values.items ≡ replicate (length (netlist_of netlist.now).drivers) false) }
+    ensures taints { IfOk result (λ o. o.taints.items ≡ replicate (length (netlist_of netlist.now).drivers) false) }
+    ensures marks { IfOk result (λ o. o.marks.items ≡ replicate (length (netlist_of netlist.now).cells) true) }
+{
+    let bits = netlist.bits() as usize;
+    let cells = netlist.cells().len();
+    Ok(NetBits {
+        values: vec![in alloc; false; bits]?,
+        taints: vec![in alloc; false; bits]?,
+        marks: vec![in alloc; true; cells]?,
     })
 }
 
@@ -73,27 +103,50 @@ fn frame_with(
 pub fn first_frame(alloc: Global, case: &Arc<Case>) -> Result<Frame, NoMemory>
     ensures { IfOk result (λ f. f ≡ frame_of case.now.value 0) }
 {
+    let _levels = case.levels();
     let stored = start_words(alloc, case.netlist(), case.stimulus())?;
     let inputs = first_inputs(alloc, case)?;
-    frame_with(alloc, case, 0, stored, inputs)
+    let begun = clear_bits(alloc, case.netlist())?;
+    frame_with(alloc, case, 0, stored, inputs, begun)
 }
 
-/// The frame after a frame.
+/// The net bits of a cycle, with which the next one begins, and the marks of cells that store something else in it.
+fn bits_again(
+    alloc: Global,
+    values: &[bool],
+    taints: &[bool],
+    marks: Vec<bool>,
+) -> Result<NetBits, AllocError>
+    ensures values { IfOk result (λ o. o.values.items ≡ values.now) }
+    ensures taints { IfOk result (λ o. o.taints.items ≡ taints.now) }
+    ensures marks { IfOk result (λ o. o.marks.items ≡ marks.items) }
+{
+    Ok(NetBits {
+        values: Vec::from_slice(alloc, values)?,
+        taints: Vec::from_slice(alloc, taints)?,
+        marks,
+    })
+}
+
+/// The frame after a frame. It begins with the net bits of that frame, and works out only what changes.
 pub fn next_frame(alloc: Global, frame: &Frame) -> Result<Frame, NoMemory>
     requires { frame.now.cycle + 1 < frame.now.case.stimulus.cycles }
     ensures { IfOk result (λ f. f ≡ frame_of frame.now.case (frame.now.cycle + 1)) }
 {
     let case = &frame.case;
     let _cycles = case.cycles();
-    let stored = next_words(
+    let _levels = case.levels();
+    let next = next_words(
         alloc,
         case.netlist(),
         &frame.values,
         &frame.taints,
         &frame.stored,
+        &frame.due,
     )?;
     let inputs = next_inputs(alloc, case, &frame.inputs)?;
-    frame_with(alloc, case, frame.cycle + 1, stored, inputs)
+    let begun = bits_again(alloc, &frame.values, &frame.taints, next.moved)?;
+    frame_with(alloc, case, frame.cycle + 1, next.stored, inputs, begun)
 }
 
 impl Frame {

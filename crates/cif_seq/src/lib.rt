@@ -5,7 +5,7 @@ mod case;
 mod frame;
 mod inputs;
 mod settle;
-mod starts;
+mod sources;
 mod state;
 mod write;
 

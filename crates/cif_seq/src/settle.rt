@@ -1,5 +1,5 @@
-// The settled net bits of a cycle: what the cycle starts from, and then cell by cell in a levelled order.
-ghost use Rattle.std.specs.Prelude.{◌≡◌, ◌<◌, ℕ, true, false, List, length, IfOk, IsOk, if◌then◌else◌};
+// The settled net bits of a cycle: the sources are set, and then the marked cells are evaluated in a levelled order.
+ghost use Rattle.std.specs.Prelude.{◌≡◌, ◌+◌, ◌<◌, ◌≤◌, ℕ, Bool, List, true, false, length, IfOk, IsOk, if◌then◌else◌};
 ghost use Rattle.cif_defs.specs.Words.{Word, bit, word, operand};
 ghost use Rattle.cif_defs.specs.Accepted.{netlist_of};
 ghost use Rattle.cif_defs.specs.Netlist.{driver_of, role_at};
@@ -8,19 +8,22 @@ ghost use Rattle.cif_defs.specs.Stimulus.{is_released};
 ghost use Rattle.cif_defs.specs.Run.{driver_value_at_depth_0, value_in, register_at_depth_0, input_value};
 ghost use Rattle.cif_defs.specs.TaintRun.{TaintState, driver_taint_at_depth_0, settled_taint, input_taint};
 ghost use Rattle.cif_inputs.specs.Cursor.{cycle_of};
+ghost use Rattle.cif_readers.specs.Reads.{Notes};
 ghost use Rattle.cif_seq.specs.Cases.{net_of};
 ghost use Rattle.cif_seq.specs.Inputs.{StandsAt};
 ghost use Rattle.cif_seq.specs.Stored.{IsStored};
-ghost use Rattle.cif_seq.specs.Settled.{EvaluatesValues, EvaluatesTaints, ValuesFollow, TaintsFollow};
+ghost use Rattle.cif_shown.specs.Evaluates.{EvaluatesValues, EvaluatesTaints};
+ghost use Rattle.cif_shown.specs.Shown.{AreBegun, AreShown, AreSources, MayBegin, Shows};
+ghost use Rattle.cif_seq.specs.GivenAt.{given_at, given_with};
 
 use crate::case::Case;
 use crate::inputs::input_pair;
+use crate::sources::role_of_cell;
 use crate::write::{write_word, write_words};
 use cif_bits::NoMemory;
 use cif_cells::{Driver, Netlist, Role, meaning, table};
 use cif_cycle::{StateWord, StoredWords, bit_of, read_data, shown_words, taint_words, value_words};
 use cif_inputs::Inputs;
-use cif_rules::taint_of;
 use cif_stimulus::Pair;
 use std::alloc::Global;
 
@@ -33,24 +36,41 @@ fn evaluate_combinational(
     number: u32,
     values: &mut [bool],
     taints: &mut [bool],
+    marks: &mut [bool],
 ) -> Result<(), NoMemory>
     requires inside { number < length (net_of case.now).cells }
     requires role { role_at (net_of case.now) number ≡ Role.Combinational }
     requires as_many_values { length values.old ≡ length (net_of case.now).drivers }
     requires as_many_taints { length taints.old ≡ length (net_of case.now).drivers }
+    requires as_many_marks { length marks.old ≡ length (net_of case.now).cells }
     ensures values { IsOk result → (stored : List Word)
         → EvaluatesValues (net_of case.now) stored number values.old values.new }
     ensures taints { IsOk result → (stored : List Word) (t : TaintState)
         → EvaluatesTaints (net_of case.now) stored values.old t
         (is_released case.now.stimulus.lines) number taints.old taints.new }
+    ensures notes { IsOk result → Notes (net_of case.now) values.old taints.old values.new taints.new marks.old marks.new }
+    ensures values_length { length values.new ≡ length values.old }
+    ensures taints_length { length taints.new ≡ length taints.old }
+    ensures marks_length { length marks.new ≡ length marks.old }
 {
     let cell = case.cell(number);
     let operand_values = value_words(alloc, values, cell)?;
     let operand_taints = taint_words(alloc, taints, cell)?;
     let words = meaning(alloc, cell, &operand_values)?;
-    let word_taints = taint_of(alloc, cell, &operand_values, &operand_taints)?;
-    write_words(values, &[], cell.outputs(), &words);
-    write_words(taints, case.released(), cell.outputs(), &word_taints);
+    let rule = case.rule(number);
+    let word_taints = rule.taint_of(alloc, cell, &operand_values, &operand_taints)?;
+    let readers = case.readers();
+    let released = case.released();
+    write_words(
+        readers,
+        released,
+        cell.outputs(),
+        &words,
+        &word_taints,
+        values,
+        taints,
+        marks,
+    );
     Ok(())
 }
 
@@ -62,25 +82,43 @@ fn evaluate_register(
     stored: &StoredWords,
     values: &mut [bool],
     taints: &mut [bool],
+    marks: &mut [bool],
 ) -> Result<(), NoMemory>
     requires inside { number < length (net_of case.now).cells }
     requires role { role_at (net_of case.now) number ≡ Role.ResetRegister }
     requires stored { IsStored (net_of case.now) stored.now.values.items stored.now.taints.items stored.now.flags.items }
     requires as_many_values { length values.old ≡ length (net_of case.now).drivers }
     requires as_many_taints { length taints.old ≡ length (net_of case.now).drivers }
+    requires as_many_marks { length marks.old ≡ length (net_of case.now).cells }
     ensures values { IsOk result
         → EvaluatesValues (net_of case.now) stored.now.values.items number values.old values.new }
     ensures taints { IsOk result
         → EvaluatesTaints (net_of case.now) stored.now.values.items values.old
         (record { stored = stored.now.taints.items; flags = stored.now.flags.items })
         (is_released case.now.stimulus.lines) number taints.old taints.new }
+    ensures notes { IsOk result → Notes (net_of case.now) values.old taints.old values.new taints.new marks.old marks.new }
+    ensures values_length { length values.new ≡ length values.old }
+    ensures taints_length { length taints.new ≡ length taints.old }
+    ensures marks_length { length marks.new ≡ length marks.old }
 {
     let cell = case.cell(number);
     let stored_value = &stored.values[number as usize];
     let stored_taint = &stored.taints[number as usize];
     let shown = shown_words(alloc, cell, values, taints, stored_value, stored_taint)?;
-    write_word(values, &[], cell.output(0), shown.value.bits());
-    write_word(taints, case.released(), cell.output(0), shown.taint.bits());
+    let readers = case.readers();
+    let released = case.released();
+    let word = shown.value.bits();
+    let taint = shown.taint.bits();
+    write_word(
+        readers,
+        released,
+        cell.output(0),
+        word,
+        taint,
+        values,
+        taints,
+        marks,
+    );
     Ok(())
 }
 
@@ -92,18 +130,24 @@ fn evaluate_memory(
     stored: &StoredWords,
     values: &mut [bool],
     taints: &mut [bool],
+    marks: &mut [bool],
 ) -> Result<(), NoMemory>
     requires inside { number < length (net_of case.now).cells }
     requires role { role_at (net_of case.now) number ≡ Role.MemoryBlock }
     requires stored { IsStored (net_of case.now) stored.now.values.items stored.now.taints.items stored.now.flags.items }
     requires as_many_values { length values.old ≡ length (net_of case.now).drivers }
     requires as_many_taints { length taints.old ≡ length (net_of case.now).drivers }
+    requires as_many_marks { length marks.old ≡ length (net_of case.now).cells }
     ensures values { IsOk result
         → EvaluatesValues (net_of case.now) stored.now.values.items number values.old values.new }
     ensures taints { IsOk result
         → EvaluatesTaints (net_of case.now) stored.now.values.items values.old
         (record { stored = stored.now.taints.items; flags = stored.now.flags.items })
         (is_released case.now.stimulus.lines) number taints.old taints.new }
+    ensures notes { IsOk result → Notes (net_of case.now) values.old taints.old values.new taints.new marks.old marks.new }
+    ensures values_length { length values.new ≡ length values.old }
+    ensures taints_length { length taints.new ≡ length taints.old }
+    ensures marks_length { length marks.new ≡ length marks.old }
 {
     let cell = case.cell(number);
     let stored_value = &stored.values[number as usize];
@@ -118,8 +162,18 @@ fn evaluate_memory(
         stored_taint,
         flag,
     )?;
-    write_word(values, &[], cell.output(0), &read.value);
-    write_word(taints, case.released(), cell.output(0), &read.taint);
+    let readers = case.readers();
+    let released = case.released();
+    write_word(
+        readers,
+        released,
+        cell.output(0),
+        &read.value,
+        &read.taint,
+        values,
+        taints,
+        marks,
+    );
     Ok(())
 }
 
@@ -132,69 +186,100 @@ fn evaluate_cell(
     stored: &StoredWords,
     values: &mut [bool],
     taints: &mut [bool],
+    marks: &mut [bool],
 ) -> Result<(), NoMemory>
     requires inside { number < length (net_of case.now).cells }
     requires passing { is_passing (role_at (net_of case.now) number) ≡ true }
     requires stored { IsStored (net_of case.now) stored.now.values.items stored.now.taints.items stored.now.flags.items }
     requires as_many_values { length values.old ≡ length (net_of case.now).drivers }
     requires as_many_taints { length taints.old ≡ length (net_of case.now).drivers }
+    requires as_many_marks { length marks.old ≡ length (net_of case.now).cells }
     ensures values { IsOk result
         → EvaluatesValues (net_of case.now) stored.now.values.items number values.old values.new }
     ensures taints { IsOk result
         → EvaluatesTaints (net_of case.now) stored.now.values.items values.old
         (record { stored = stored.now.taints.items; flags = stored.now.flags.items })
         (is_released case.now.stimulus.lines) number taints.old taints.new }
+    ensures notes { IsOk result → Notes (net_of case.now) values.old taints.old values.new taints.new marks.old marks.new }
+    ensures values_length { length values.new ≡ length values.old }
+    ensures taints_length { length taints.new ≡ length taints.old }
+    ensures marks_length { length marks.new ≡ length marks.old }
 {
     let kind = case.cell(number).kind();
     match table::role(kind) {
-        Role::Combinational => Ok(evaluate_combinational(alloc, case, number, values, taints)?),
-        Role::ResetRegister => {
-            Ok(evaluate_register(alloc, case, number, stored, values, taints)?)
-        }
-        Role::MemoryBlock => Ok(evaluate_memory(alloc, case, number, stored, values, taints)?),
+        Role::Combinational => Ok(evaluate_combinational(
+            alloc, case, number, values, taints, marks,
+        )?),
+        Role::ResetRegister => Ok(evaluate_register(
+            alloc, case, number, stored, values, taints, marks,
+        )?),
+        Role::MemoryBlock => Ok(evaluate_memory(
+            alloc, case, number, stored, values, taints, marks,
+        )?),
         Role::PlainRegister | Role::CarriedOver => unreachable!(),
     }
 }
 
-/// Evaluates the passing cells, one after another.
-fn evaluate_cells(
+/// Evaluates the cell at a place of the order, where it is marked.
+fn evaluate_place(
+    alloc: Global,
+    case: &Case,
+    place: usize,
+    stored: &StoredWords,
+    values: &mut [bool],
+    taints: &mut [bool],
+    marks: &mut [bool],
+) -> Result<(), NoMemory>
+    requires inside { place < length case.now.order }
+    requires stored { IsStored (net_of case.now) stored.now.values.items stored.now.taints.items stored.now.flags.items }
+    requires as_many_values { length values.old ≡ length (net_of case.now).drivers }
+    requires as_many_taints { length taints.old ≡ length (net_of case.now).drivers }
+    requires as_many_marks { length marks.old ≡ length (net_of case.now).cells }
+    ensures shown { IsOk result → (input taint_input : ℕ → ℕ → Bool)
+        → AreShown (net_of case.now) (given_with case.now stored.now input taint_input) case.now.order place marks.old values.old taints.old
+        → AreShown (net_of case.now) (given_with case.now stored.now input taint_input) case.now.order (place + 1) marks.new values.new taints.new }
+    ensures notes { IsOk result → Notes (net_of case.now) values.old taints.old values.new taints.new marks.old marks.new }
+    ensures values_length { length values.new ≡ length values.old }
+    ensures taints_length { length taints.new ≡ length taints.old }
+    ensures marks_length { length marks.new ≡ length marks.old }
+{
+    let order = case.levels().items();
+    let number = order[place];
+    if !bit_of(marks, number as usize) {
+        return Ok(());
+    }
+    evaluate_cell(alloc, case, number, stored, values, taints, marks)
+}
+
+/// Evaluates the marked cells, one after another; each cell that reads a bit that changes is marked too.
+fn evaluate_marked(
     alloc: Global,
     case: &Case,
     stored: &StoredWords,
     values: &mut [bool],
     taints: &mut [bool],
+    marks: &mut [bool],
 ) -> Result<(), NoMemory>
     requires stored { IsStored (net_of case.now) stored.now.values.items stored.now.taints.items stored.now.flags.items }
     requires as_many_values { length values.old ≡ length (net_of case.now).drivers }
     requires as_many_taints { length taints.old ≡ length (net_of case.now).drivers }
-    ensures values { IsOk result → ValuesFollow (net_of case.now) stored.now.values.items
-        case.now.order (length case.now.order) values.old values.new }
-    ensures taints { IsOk result → TaintsFollow (net_of case.now) stored.now.values.items
-        (record { stored = stored.now.taints.items; flags = stored.now.flags.items })
-        (is_released case.now.stimulus.lines) case.now.order (length case.now.order) values.old
-        taints.old taints.new }
+    requires as_many_marks { length marks.old ≡ length (net_of case.now).cells }
+    ensures shown { IsOk result → (input taint_input : ℕ → ℕ → Bool)
+        → AreShown (net_of case.now) (given_with case.now stored.now input taint_input) case.now.order 0 marks.old values.old taints.old
+        → AreShown (net_of case.now) (given_with case.now stored.now input taint_input) case.now.order (length case.now.order) marks.new values.new taints.new }
+    ensures notes { IsOk result → Notes (net_of case.now) values.old taints.old values.new taints.new marks.old marks.new }
+    ensures values_length { length values.new ≡ length values.old }
+    ensures taints_length { length taints.new ≡ length taints.old }
+    ensures marks_length { length marks.new ≡ length marks.old }
 {
-    let order = case.levels().items();
-    for i in 0..order.len() {
-        evaluate_cell(alloc, case, order[i], stored, values, taints)?;
+    let count = case.levels().items().len();
+    for place in 0..count {
+        evaluate_place(alloc, case, place, stored, values, taints, marks)?;
     }
     Ok(())
 }
 
 // ---- what a cycle starts from
-
-/// The role of a cell; a number past the last cell has none in a run.
-fn role_of_cell(netlist: &Netlist, number: u32) -> Role
-    ensures { result ≡ role_at (netlist_of netlist.now) number }
-{
-    let cells = netlist.cells();
-    if (number as usize) < cells.len() {
-        let cell = &cells[number as usize];
-        table::role(cell.kind())
-    } else {
-        Role::CarriedOver
-    }
-}
 
 /// A bit of a word among those of the cells; 0 past the end of the word, and where there is no such cell.
 pub fn state_bit(words: &[StateWord], cell: u32, index: u64) -> bool
@@ -252,70 +337,117 @@ fn start_pair(case: &Case, stored: &StoredWords, inputs: &Inputs, net: u32) -> P
     }
 }
 
-/// The value and the taint of each net bit.
+/// Sets the net bits of the input ports and of registers without asynchronous reset; each cell that reads a bit that
+/// changes is marked.
+fn set_sources(
+    case: &Case,
+    stored: &StoredWords,
+    inputs: &Inputs,
+    values: &mut [bool],
+    taints: &mut [bool],
+    marks: &mut [bool],
+)
+    requires at { StandsAt (net_of case.now) case.now.stimulus (cycle_of inputs.now) inputs.now }
+    requires as_many_values { length values.old ≡ length (net_of case.now).drivers }
+    requires as_many_taints { length taints.old ≡ length (net_of case.now).drivers }
+    requires as_many_marks { length marks.old ≡ length (net_of case.now).cells }
+    ensures shown { MayBegin (net_of case.now) (given_at case.now stored.now inputs.now) case.now.order marks.old values.old taints.old
+        → AreShown (net_of case.now) (given_at case.now stored.now inputs.now) case.now.order 0 marks.new values.new taints.new }
+    ensures notes { Notes (net_of case.now) values.old taints.old values.new taints.new marks.old marks.new }
+    ensures values_length { length values.new ≡ length values.old }
+    ensures taints_length { length taints.new ≡ length taints.old }
+    ensures marks_length { length marks.new ≡ length marks.old }
+{
+    let _levels = case.levels();
+    let sources = case.sources();
+    let released = case.released();
+    for place in 0..sources.len() {
+        let net = sources[place];
+        let pair = start_pair(case, stored, inputs, net);
+        let taint = !bit_of(released, net as usize) & pair.taint;
+        case.readers()
+            .set_bit(net, pair.value, taint, values, taints, marks);
+    }
+}
+
+/// Settles the net bits of a cycle in place.
+fn settle(
+    alloc: Global,
+    case: &Case,
+    stored: &StoredWords,
+    inputs: &Inputs,
+    values: &mut [bool],
+    taints: &mut [bool],
+    marks: &mut [bool],
+) -> Result<(), NoMemory>
+    requires stored { IsStored (net_of case.now) stored.now.values.items stored.now.taints.items stored.now.flags.items }
+    requires at { StandsAt (net_of case.now) case.now.stimulus (cycle_of inputs.now) inputs.now }
+    requires as_many_values { length values.old ≡ length (net_of case.now).drivers }
+    requires as_many_taints { length taints.old ≡ length (net_of case.now).drivers }
+    requires as_many_marks { length marks.old ≡ length (net_of case.now).cells }
+    ensures shown { IsOk result → MayBegin (net_of case.now) (given_at case.now stored.now inputs.now) case.now.order marks.old values.old taints.old
+        → (b : ℕ) → Shows (net_of case.now) (given_at case.now stored.now inputs.now) values.new taints.new b }
+    ensures notes { IsOk result → Notes (net_of case.now) values.old taints.old values.new taints.new marks.old marks.new }
+    ensures values_length { length values.new ≡ length values.old }
+    ensures taints_length { length taints.new ≡ length taints.old }
+    ensures marks_length { length marks.new ≡ length marks.old }
+{
+    let _levels = case.levels();
+    set_sources(case, stored, inputs, values, taints, marks);
+    evaluate_marked(alloc, case, stored, values, taints, marks)
+}
+
+/// The value and the taint of each net bit, and marks of cells.
 #[derive(Drop)]
 pub struct NetBits {
     /// The values, by net bit.
     pub values: Vec<bool>,
     /// The taints, by net bit.
     pub taints: Vec<bool>,
+    /// The marks, by cell.
+    pub marks: Vec<bool>,
 }
 
-/// The net bits before any cell is evaluated.
-fn start_bits(
-    alloc: Global,
-    case: &Case,
-    stored: &StoredWords,
-    inputs: &Inputs,
-) -> Result<NetBits, NoMemory>
-    requires { StandsAt (net_of case.now) case.now.stimulus (cycle_of inputs.now) inputs.now }
-    ensures values { IfOk result (λ o. o.values.items ≡ word (length (net_of case.now).drivers)
-        (λ b. driver_value_at_depth_0 (net_of case.now) stored.now.values.items
-        (input_value (net_of case.now) case.now.stimulus (cycle_of inputs.now))
-        (driver_of (net_of case.now) b))) }
-    ensures taints { IfOk result (λ o. o.taints.items ≡ word (length (net_of case.now).drivers)
-        (λ b. if is_released case.now.stimulus.lines b then false else driver_taint_at_depth_0 (net_of case.now)
-        (record { stored = stored.now.taints.items; flags = stored.now.flags.items })
-        (input_taint (net_of case.now) case.now.stimulus (cycle_of inputs.now))
-        (driver_of (net_of case.now) b))) }
-{
-    let count = case.netlist().bits();
-    let marks = case.released();
-    let mut values = Vec::with_capacity(alloc, count as usize)?;
-    let mut taints = Vec::with_capacity(alloc, count as usize)?;
-    for net in 0..count {
-        let pair = start_pair(case, stored, inputs, net);
-        values.push(pair.value)?;
-        taints.push(!bit_of(marks, net as usize) & pair.taint)?;
-    }
-    Ok(NetBits { values, taints })
-}
-
-/// The settled net bits of a cycle, from the words that the cells store and the inputs at that cycle.
+/// The settled net bits of a cycle, from the words that the cells store, from the inputs at that cycle, and from bits with
+/// which the cycle may begin. The marks say which cells read a bit that changed, or were marked before.
 pub fn settled(
     alloc: Global,
     case: &Case,
     stored: &StoredWords,
     inputs: &Inputs,
+    begun: NetBits,
 ) -> Result<NetBits, NoMemory>
     requires stored { IsStored (net_of case.now) stored.now.values.items stored.now.taints.items stored.now.flags.items }
     requires at { StandsAt (net_of case.now) case.now.stimulus (cycle_of inputs.now) inputs.now }
-    ensures values { IfOk result (λ o. (b : ℕ) → bit o.values.items b
-        ≡ value_in (net_of case.now) stored.now.values.items
-        (input_value (net_of case.now) case.now.stimulus (cycle_of inputs.now)) b) }
-    ensures taints { IfOk result (λ o. (b : ℕ) → bit o.taints.items b
-        ≡ settled_taint (net_of case.now) stored.now.values.items
-        (value_in (net_of case.now) stored.now.values.items
-        (input_value (net_of case.now) case.now.stimulus (cycle_of inputs.now)))
-        (record { stored = stored.now.taints.items; flags = stored.now.flags.items })
-        (input_taint (net_of case.now) case.now.stimulus (cycle_of inputs.now))
-        (is_released case.now.stimulus.lines) (length (net_of case.now).cells) b) }
+    requires as_many_values { length begun.values.items ≡ length (net_of case.now).drivers }
+    requires as_many_taints { length begun.taints.items ≡ length (net_of case.now).drivers }
+    requires as_many_marks { length begun.marks.items ≡ length (net_of case.now).cells }
+    requires begins { MayBegin (net_of case.now) (given_at case.now stored.now inputs.now) case.now.order begun.marks.items begun.values.items begun.taints.items }
+    ensures shown { IfOk result (λ o. (b : ℕ)
+        → Shows (net_of case.now) (given_at case.now stored.now inputs.now) o.values.items o.taints.items b) }
+    ensures notes { IfOk result (λ o. Notes (net_of case.now) begun.values.items begun.taints.items
+        o.values.items o.taints.items begun.marks.items o.marks.items) }
+    ensures as_many_values { IfOk result (λ o. length o.values.items ≡ length (net_of case.now).drivers) }
+    ensures as_many_taints { IfOk result (λ o. length o.taints.items ≡ length (net_of case.now).drivers) }
+    ensures as_many_marks { IfOk result (λ o. length o.marks.items ≡ length (net_of case.now).cells) }
 {
-    let _levels = case.levels();
     let NetBits {
         mut values,
         mut taints,
-    } = start_bits(alloc, case, stored, inputs)?;
-    evaluate_cells(alloc, case, stored, &mut values, &mut taints)?;
-    Ok(NetBits { values, taints })
+        mut marks,
+    } = begun;
+    settle(
+        alloc,
+        case,
+        stored,
+        inputs,
+        &mut values,
+        &mut taints,
+        &mut marks,
+    )?;
+    Ok(NetBits {
+        values,
+        taints,
+        marks,
+    })
 }

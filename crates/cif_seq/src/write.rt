@@ -1,11 +1,15 @@
-// Words written to the net bits that a cell's outputs drive.
-ghost use Rattle.std.specs.Prelude.{◌≡◌};
+// Words written to the net bits that a cell's outputs drive; each reader of a bit that changes is marked.
+ghost use Rattle.std.specs.Prelude.{◌≡◌, ◌≤◌, [], length};
+ghost use Rattle.cif_defs.specs.Netlist.{Netlist as NetlistData};
 ghost use Rattle.cif_defs.specs.Words.{operand};
-ghost use Rattle.cif_seq.specs.Writes.{put_word, put_words};
+ghost use Rattle.cif_readers.specs.Reads.{Notes};
+ghost use Rattle.cif_readers.specs.Tables.{AreReaders};
+ghost use Rattle.cif_seq.specs.Writes.{put, put_word, put_words};
 
 use cif_bits::Bits;
 use cif_cells::{NetBit, Targets};
 use cif_cycle::bit_of;
+use cif_readers::Readers;
 
 /// The bits of the word of `port`; none where there is no such port.
 fn port_bits(words: &[Bits], port: usize) -> &[bool]
@@ -17,25 +21,97 @@ fn port_bits(words: &[Bits], port: usize) -> &[bool]
     }
 }
 
-/// Writes a word to the net bits of one output; a bit that `marks` has is written as 0.
-pub fn write_word(bits: &mut [bool], marks: &[bool], targets: &[Option<NetBit>], word: &[bool])
-    ensures { bits.new ≡ put_word marks.now targets.now word.now bits.old }
+/// Writes a bit and its taint to the net bit of an output bit, where one is connected; a released bit is untainted.
+fn write_target(
+    readers: &Readers,
+    released: &[bool],
+    target: Option<NetBit>,
+    value: bool,
+    taint: bool,
+    values: &mut [bool],
+    taints: &mut [bool],
+    marks: &mut [bool],
+)
+    requires { length taints.old ≡ length values.old }
+    ensures values { values.new ≡ put [] target value values.old }
+    ensures taints { taints.new ≡ put released.now target taint taints.old }
+    ensures values_length { length values.new ≡ length values.old }
+    ensures taints_length { length taints.new ≡ length taints.old }
+    ensures marks_length { length marks.new ≡ length marks.old }
+    ensures notes { (n : NetlistData) → AreReaders n readers.now → length n.cells ≤ length marks.old
+        → Notes n values.old taints.old values.new taints.new marks.old marks.new }
 {
-    for i in 0..targets.len() {
-        if let Some(net) = targets[i] {
-            if (net as usize) < bits.len() {
-                bits[net as usize] = !bit_of(marks, net as usize) & bit_of(word, i);
-            }
+    if let Some(net) = target {
+        if (net as usize) < values.len() {
+            let kept = !bit_of(released, net as usize) & taint;
+            readers.set_bit(net, value, kept, values, taints, marks);
         }
     }
 }
 
-/// Writes the words of a cell to the net bits that its outputs drive; a bit that `marks` has is written as 0.
-pub fn write_words(bits: &mut [bool], marks: &[bool], outputs: &[Targets], words: &[Bits])
-    ensures { bits.new ≡ put_words marks.now outputs.now words.now bits.old }
+/// Writes a word and its taint to the net bits of one output; a released bit is untainted.
+pub fn write_word(
+    readers: &Readers,
+    released: &[bool],
+    targets: &[Option<NetBit>],
+    word: &[bool],
+    taint: &[bool],
+    values: &mut [bool],
+    taints: &mut [bool],
+    marks: &mut [bool],
+)
+    requires { length taints.old ≡ length values.old }
+    ensures values { values.new ≡ put_word [] targets.now word.now values.old }
+    ensures taints { taints.new ≡ put_word released.now targets.now taint.now taints.old }
+    ensures values_length { length values.new ≡ length values.old }
+    ensures taints_length { length taints.new ≡ length taints.old }
+    ensures marks_length { length marks.new ≡ length marks.old }
+    ensures notes { (n : NetlistData) → AreReaders n readers.now → length n.cells ≤ length marks.old
+        → Notes n values.old taints.old values.new taints.new marks.old marks.new }
+{
+    for i in 0..targets.len() {
+        let value_bit = bit_of(word, i);
+        let taint_bit = bit_of(taint, i);
+        let target = targets[i];
+        write_target(
+            readers, released, target, value_bit, taint_bit, values, taints, marks,
+        );
+    }
+}
+
+/// Writes the words of a cell and their taints to the net bits that its outputs drive; a released bit is untainted.
+pub fn write_words(
+    readers: &Readers,
+    released: &[bool],
+    outputs: &[Targets],
+    words: &[Bits],
+    word_taints: &[Bits],
+    values: &mut [bool],
+    taints: &mut [bool],
+    marks: &mut [bool],
+)
+    requires { length taints.old ≡ length values.old }
+    ensures values { values.new ≡ put_words [] outputs.now words.now values.old }
+    ensures taints { taints.new ≡ put_words released.now outputs.now word_taints.now taints.old }
+    ensures values_length { length values.new ≡ length values.old }
+    ensures taints_length { length taints.new ≡ length taints.old }
+    ensures marks_length { length marks.new ≡ length marks.old }
+    ensures notes { (n : NetlistData) → AreReaders n readers.now → length n.cells ≤ length marks.old
+        → Notes n values.old taints.old values.new taints.new marks.old marks.new }
 {
     for port in 0..outputs.len() {
         let targets = &outputs[port];
-        write_word(bits, marks, targets.items(), port_bits(words, port));
+        let word = port_bits(words, port);
+        let word_taint = port_bits(word_taints, port);
+        write_word(
+            readers,
+            released,
+            targets.items(),
+            word,
+            word_taint,
+            values,
+            taints,
+            marks,
+        );
     }
 }

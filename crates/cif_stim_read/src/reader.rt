@@ -16,7 +16,10 @@ use crate::lines::Line;
 use cif_bits::NoMemory;
 use cif_cells::{Found, Netlist};
 use cif_defs::{Name, Param};
-use cif_stimulus::{StimFault, Stimulus, Version, has_address, memory, register, settable_port};
+use cif_stimulus::{
+    StimFault, StimLine, Stimulus, Version, cell_place, has_address, memory, port_place, register,
+    settable_port,
+};
 use std::alloc::Global;
 
 /// Whether a cycle may begin a group after that of another.
@@ -95,7 +98,9 @@ impl<'a> Reader<'a> {
         if self.opened.is_some() {
             return Err(StimFault::BadLine(number));
         }
-        let Some(register) = register(netlist, cell.items()) else {
+        let name = cell.items();
+        let place = cell_place(netlist, name, None);
+        let Some(register) = register(netlist, name, place) else {
             return Err(StimFault::NoSuchName(number));
         };
         if !word.has_width(register.number(Param::Width)) {
@@ -105,7 +110,12 @@ impl<'a> Reader<'a> {
             return Err(StimFault::SetTwice(number));
         }
         let bits = word.read(alloc)?;
-        self.stimulus.push_reg(alloc, cell, bits.value, bits.taint)?;
+        let line = StimLine::Reg {
+            cell,
+            value: bits.value,
+            taint: bits.taint,
+        };
+        self.stimulus.push_line(line, place)?;
         Ok(())
     }
 
@@ -132,7 +142,9 @@ impl<'a> Reader<'a> {
         if self.opened.is_some() {
             return Err(StimFault::BadLine(number));
         }
-        let Some(memory) = memory(netlist, cell.items()) else {
+        let name = cell.items();
+        let place = cell_place(netlist, name, None);
+        let Some(memory) = memory(netlist, name, place) else {
             return Err(StimFault::NoSuchName(number));
         };
         if !has_address(memory, address) {
@@ -145,8 +157,13 @@ impl<'a> Reader<'a> {
             return Err(StimFault::SetTwice(number));
         }
         let bits = word.read(alloc)?;
-        self.stimulus
-            .push_mem(alloc, cell, address, bits.value, bits.taint)?;
+        let line = StimLine::Mem {
+            cell,
+            address,
+            value: bits.value,
+            taint: bits.taint,
+        };
+        self.stimulus.push_line(line, place)?;
         Ok(())
     }
 
@@ -229,7 +246,9 @@ impl<'a> Reader<'a> {
         if self.opened.is_none() {
             return Err(StimFault::BadLine(number));
         }
-        let Some(wire) = settable_port(netlist, port.items()) else {
+        let name = port.items();
+        let place = port_place(netlist, name, None);
+        let Some(wire) = settable_port(netlist, name, place) else {
             return Err(StimFault::NoSuchName(number));
         };
         if !word.has_width(wire.items().len() as u64) {
@@ -239,7 +258,12 @@ impl<'a> Reader<'a> {
             return Err(StimFault::SetTwice(number));
         }
         let bits = word.read(alloc)?;
-        self.stimulus.push_set(alloc, port, bits.value, bits.taint)?;
+        let line = StimLine::Set {
+            port,
+            value: bits.value,
+            taint: bits.taint,
+        };
+        self.stimulus.push_line(line, place)?;
         Ok(())
     }
 }

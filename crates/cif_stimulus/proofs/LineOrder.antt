@@ -1,5 +1,5 @@
 -- Lines that stand where they may, one after another.
-use Rattle.std.specs.Prelude.{ℕ, zero, suc, ◌≡◌, Bool, true, false, ◌&&◌, ◌||◌, List, [], ◌∷◌, ◌++◌, map, reverse, length, drop, refl}
+use Rattle.std.specs.Prelude.{ℕ, zero, suc, ◌≡◌, Bool, true, false, ◌&&◌, ◌||◌, List, [], ◌∷◌, ◌++◌, map, reverse, length, drop, Option, refl}
 use Rattle.std.proofs.Common.{arith, sym, ap, subst, ◌∙◌, append_assoc}
 use Rattle.std.specs.List.{list_any}
 use Rattle.std.specs.Global.{Vec}
@@ -88,14 +88,14 @@ ordered_kept old seen new line h is made may written =
     (ap (λ (s : StimulusData). may_follow s.cycles (reverse s.lines) (line_seen line)) is ∙ may) written)
 
 -- a line that names no cell is added
-pub kept_other : (old : Inside) (seen : StimulusData) (new : Vec StimLine) (line : StimLine) → IsKept old → stimulus_seen old ≡ seen → new.items ≡ old.lines.items ++ line ∷ [] → is_start line ≡ false → may_follow seen.cycles (reverse seen.lines) (line_seen line) ≡ true → is_written (line_seen line) ≡ true → IsKept (record { cycles = old.cycles; lines = new; starts = old.starts })
-kept_other old seen new line h is made other may written =
+pub kept_other : (old : Inside) (seen : StimulusData) (new : Vec StimLine) (places : Vec (Option ℕ)) (line : StimLine) → IsKept old → stimulus_seen old ≡ seen → new.items ≡ old.lines.items ++ line ∷ [] → is_start line ≡ false → may_follow seen.cycles (reverse seen.lines) (line_seen line) ≡ true → is_written (line_seen line) ≡ true → IsKept (record { cycles = old.cycles; lines = new; places = places; starts = old.starts })
+kept_other old seen new places line h is made other may written =
     let P : List StimLine → Type 0 = λ ls. StartsBefore old.starts ls in
     record { starts = subst P (sym made) (starts_push old.starts old.lines.items line h.starts other); ordered = ordered_kept old seen new.items line h is made may written }
 
 -- a line that names a cell is added
-pub kept_start : (old : Inside) (seen : StimulusData) (new : Vec StimLine) (line : StimLine) (starts : ℕ) → IsKept old → stimulus_seen old ≡ seen → new.items ≡ old.lines.items ++ line ∷ [] → starts ≡ length new.items → may_follow seen.cycles (reverse seen.lines) (line_seen line) ≡ true → is_written (line_seen line) ≡ true → IsKept (record { cycles = old.cycles; lines = new; starts = starts })
-kept_start old seen new line starts h is made count may written =
+pub kept_start : (old : Inside) (seen : StimulusData) (new : Vec StimLine) (places : Vec (Option ℕ)) (line : StimLine) (starts : ℕ) → IsKept old → stimulus_seen old ≡ seen → new.items ≡ old.lines.items ++ line ∷ [] → starts ≡ length new.items → may_follow seen.cycles (reverse seen.lines) (line_seen line) ≡ true → is_written (line_seen line) ≡ true → IsKept (record { cycles = old.cycles; lines = new; places = places; starts = starts })
+kept_start old seen new places line starts h is made count may written =
     record { starts = starts_all starts new.items count; ordered = ordered_kept old seen new.items line h is made may written }
 
 -- ---- what is released

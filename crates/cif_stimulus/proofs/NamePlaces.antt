@@ -1,5 +1,5 @@
 -- The places of things by name.
-use Rattle.std.specs.Prelude.{ℕ, zero, suc, ◌+◌, ◌-◌, ◌<◌, ◌≡◌, Bool, true, false, List, [], ◌∷◌, length, get_or, bytes_eq, Option, Some, None, refl}
+use Rattle.std.specs.Prelude.{ℕ, zero, suc, ◌+◌, ◌<◌, ◌≡◌, Bool, true, false, List, [], ◌∷◌, map, length, get_or, bytes_eq, Option, Some, None, refl}
 use Rattle.std.proofs.Common.{arith, sym, ap, ◌∙◌, cond}
 use Rattle.std.specs.List.{find}
 use Rattle.std.proofs.lemmas.List.{get_or_default}
@@ -9,7 +9,8 @@ use Rattle.std.proofs.lemmas.Slice.Eq.{bytes_eq-Decides}
 use Rattle.cif_defs.specs.Netlist.{no_wire}
 use Rattle.cif_defs.specs.declared.nets.Wire.{Wire}
 use Rattle.std.specs.List.{position_from}
-use Rattle.cif_defs.specs.Order.{place_among}
+use Rattle.cif_defs.specs.Order.{AreInOrder, place_among}
+use Rattle.cif_defs.proofs.NameOrder.{own_place}
 use Rattle.cif_stimulus.specs.Names.{place_named, port_name}
 
 -- ---- what the place of a name says
@@ -79,3 +80,11 @@ found_step test y ys x d false e k next = (let rest = next k in (suc rest.0, (om
 pub found_place : {A : Type 0} (test : A → Bool) (xs : List A) (x d : A) → find test xs ≡ Some x → StandsIn test xs x d
 found_place test [] x d h = absurd (cc)
 found_place test (y ∷ ys) x d h = found_step test y ys x d (test y) refl h (found_place test ys x d)
+
+-- ---- a hint
+
+-- what stands at a place and has the name is what is meant, since each name stands once
+pub hinted : {A : Type 0} (name_of : A → List ℕ) (xs : List A) (name : List ℕ) (p : ℕ) (x : A) → AreInOrder (map name_of xs) → p < length xs → x ≡ get_or xs p x → bytes_eq (name_of x) name ≡ true → Some p ≡ place_among name_of xs name
+hinted {A} name_of xs name p x order h is same =
+    sym (own_place name_of xs p x order h)
+    ∙ ap (λ (q : List ℕ). place_among name_of xs q) (ap name_of (sym is) ∙ (bytes_eq-Decides (name_of x) name).0 same)

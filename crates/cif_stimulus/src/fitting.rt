@@ -7,7 +7,7 @@ ghost use Rattle.cif_stimulus.specs.StimulusView.{line_seen, tainted};
 ghost use Rattle.cif_stimulus.specs.Fitting.{is_address, is_of_width as is_of_width_by, is_stored_by, is_held_by, is_found_as as is_found_as_of, are_same_sources as are_same_sources_of, fits_alone as fits_alone_of, is_reg_of, is_mem_of, is_release_of, is_set_among, is_again as is_again_of, lines_fit as lines_fit_of};
 
 use crate::line::StimLine;
-use crate::lookup::{memory, register, settable_port};
+use crate::lookup::{hint_at, memory, register, settable_port};
 use cif_bits::Bits;
 use cif_cells::{Cell, Found, Netlist};
 use cif_defs::{Param, Src, Wire};
@@ -81,23 +81,23 @@ fn fits_port(port: Option<&Wire>, value: &Bits, taint: &Bits) -> bool
 }
 
 /// Whether what a line names is there, with its address and its width.
-fn fits_alone(netlist: &Netlist, line: &StimLine) -> bool
+fn fits_alone(netlist: &Netlist, line: &StimLine, hint: Option<usize>) -> bool
     ensures { result ≡ fits_alone_of netlist.now (line_seen line.now) }
 {
     match line {
         StimLine::Reg { cell, value, taint } => {
-            fits_register(register(netlist, cell.items()), value, taint)
+            fits_register(register(netlist, cell.items(), hint), value, taint)
         }
         StimLine::Mem {
             cell,
             address,
             value,
             taint,
-        } => fits_memory(memory(netlist, cell.items()), *address, value, taint),
+        } => fits_memory(memory(netlist, cell.items(), hint), *address, value, taint),
         StimLine::Release { name, wire } => is_found_as(netlist.find(name.items()), wire.items()),
         StimLine::Cycle(_) => true,
         StimLine::Set { port, value, taint } => {
-            fits_port(settable_port(netlist, port.items()), value, taint)
+            fits_port(settable_port(netlist, port.items(), hint), value, taint)
         }
     }
 }
@@ -190,12 +190,13 @@ fn is_again(line: &StimLine, before: &[StimLine]) -> bool
 }
 
 /// Whether each line fits a netlist by itself, and none gives again what one before it gave.
-pub fn lines_fit(netlist: &Netlist, lines: &[StimLine]) -> bool
+pub fn lines_fit(netlist: &Netlist, lines: &[StimLine], places: &[Option<usize>]) -> bool
     ensures { result ≡ lines_fit_of netlist.now [] (map line_seen lines.now) }
 {
     for number in 0..lines.len() {
         let line = &lines[number];
-        if !fits_alone(netlist, line) || is_again(line, &lines[..number]) {
+        let hint = hint_at(places, number);
+        if !fits_alone(netlist, line, hint) || is_again(line, &lines[..number]) {
             return false;
         }
     }

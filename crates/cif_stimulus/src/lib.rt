@@ -13,7 +13,7 @@ mod walk;
 pub use fault::StimFault;
 pub use fitting::has_address;
 pub use line::{Pair, StimLine};
-pub use lookup::{memory, register, settable_port};
+pub use lookup::{cell_place, memory, port_place, register, settable_port};
 pub use stimulus::Stimulus;
 pub use version::Version;
 pub use walk::set_pair;

@@ -1,4 +1,6 @@
 // The lines of a stimulus.
+ghost use Rattle.std.specs.Prelude.{◌≡◌};
+ghost use Rattle.cif_stimulus.specs.StimulusView.{is_start};
 
 use cif_bits::Bits;
 use cif_defs::{Name, Wire};
@@ -53,4 +55,13 @@ pub enum StimLine {
         /// Which bits of the word are tainted.
         taint: Bits,
     },
+}
+
+impl StimLine {
+    /// Whether it says what a register or a memory starts with.
+    pub(crate) fn is_start(&self) -> bool
+        ensures { result ≡ is_start self.now }
+    {
+        matches!(self, StimLine::Reg { .. } | StimLine::Mem { .. })
+    }
 }

@@ -3,12 +3,14 @@ ghost use Rattle.std.specs.Prelude.{◌≡◌, ◌<◌, [], map, length, true, f
 ghost use Rattle.cif_defs.specs.Words.{bit};
 ghost use Rattle.cif_defs.specs.Accepted.{netlist_of};
 ghost use Rattle.cif_defs.specs.Stimulus.{input_at, start_at, is_released as is_released_by, reg_line, mem_line, release_line, cycle_line, set_line};
+ghost use Rattle.cif_stimulus.specs.Names.{line_at, owner_of, target_of};
 ghost use Rattle.cif_stimulus.specs.StimulusView.{line_seen, tainted, Adds};
 ghost use Rattle.cif_stimulus.specs.Fitting.{fits_of, is_name_released};
 ghost use Rattle.cif_stimulus.specs.Places.{IsOrdered, is_cycle_count, may_add, is_written};
 
 use crate::fitting::lines_fit;
 use crate::line::{Pair, StimLine};
+use crate::lookup::{hint_at, owner, target};
 use crate::walk::{are_released, last_set, set_pair, started_pair, stores};
 use cif_bits::{Bits, NoMemory};
 use cif_cells::Netlist;
@@ -24,6 +26,9 @@ use std::marker::Model;
 pub struct Stimulus {
     cycles: u64,
     lines: Vec<StimLine>,
+    // For each line the place where what it names was found, if it was sought: the number of a register or a memory, or of
+    // an input port. It is a hint: a name is looked for there first.
+    places: Vec<Option<usize>>,
     // No register and no memory is named past so many lines.
     starts: usize,
 }
@@ -49,6 +54,7 @@ impl Stimulus {
         Ok(Stimulus {
             cycles,
             lines: Vec::new(alloc),
+            places: Vec::new(alloc),
             starts: 0,
         })
     }
@@ -114,6 +120,30 @@ impl Stimulus {
     }
 }
 
+/// What its lines name in a netlist. A name is sought only where it doesn't stand at the place that the line was added with.
+impl Stimulus {
+    /// The number of the input port that a line sets; None where the line sets nothing, or the netlist has no such port.
+    pub fn target(&self, netlist: &Netlist, number: usize) -> Option<usize>
+        requires { number < length self.now.lines }
+        ensures { result ≡ target_of (netlist_of netlist.now).inputs (line_at self.now.lines number) }
+    {
+        let hint = hint_at(&self.places, number);
+        let lines = self.lines();
+        target(netlist, &lines[number], hint)
+    }
+
+    /// The number of the cell of which a line says what it starts with; None where it says that of none, or the netlist has
+    /// no such cell.
+    pub fn owner(&self, netlist: &Netlist, number: usize) -> Option<usize>
+        requires { number < length self.now.lines }
+        ensures { result ≡ owner_of (netlist_of netlist.now).cells (line_at self.now.lines number) }
+    {
+        let hint = hint_at(&self.places, number);
+        let lines = self.lines();
+        owner(netlist, &lines[number], hint)
+    }
+}
+
 /// Whether its lines are those of a netlist.
 impl Stimulus {
     /// Whether each line fits a netlist, and none gives again what a line before it gave:
@@ -126,13 +156,13 @@ impl Stimulus {
     /// - a `Set` line names an input port other than the clock, its words have the port's width, and no port is set
     ///   twice in a group, which a `Cycle` line begins.
     ///
-    /// It takes no memory. It finds a cell or an input port among names in byte order, by halves, and compares each `Reg`,
-    /// `Mem` and `Release` line with all lines before it, and each `Set` line with those of its group.
+    /// It takes no memory. It finds a cell or an input port where the line was added with its place, or else by halves, and
+    /// compares each `Reg`, `Mem` and `Release` line with all lines before it, and each `Set` line with those of its group.
     #[tactic(auto, unfolding(crate::specs::Fitting::fits_of))]
     pub fn fits(&self, netlist: &Netlist) -> bool
         ensures { result ≡ fits_of netlist.now self.now }
     {
-        lines_fit(netlist, &self.lines)
+        lines_fit(netlist, &self.lines, &self.places)
     }
 }
 
@@ -141,6 +171,26 @@ impl Stimulus {
 /// of cycles. Names have at least one byte, words at least one bit, and taints as many. A call that finds no memory leaves
 /// the stimulus as it was.
 impl Stimulus {
+    /// Adds a line, with the place where what it names was found: the number of a register or a memory for a `Reg` or a `Mem`
+    /// line, that of an input port for a `Set` line, in the netlist for which the stimulus is made. The place saves a search
+    /// of the name, and no answer depends on it.
+    pub fn push_line(&mut self, line: StimLine, place: Option<usize>) -> Result<(), NoMemory>
+        requires place { may_add self.old (line_seen line) ≡ true }
+        requires written { is_written (line_seen line) ≡ true }
+        ensures ok { OnOk result (Adds self.old self.new (line_seen line)) }
+        ensures err { OnErr result (self.new ≡ self.old) }
+    {
+        let is_start = line.is_start();
+        // A place may be left of a line that found no memory.
+        self.places.truncate(self.lines.len());
+        self.places.push(place)?;
+        self.lines.push(line)?;
+        if is_start {
+            self.starts = self.lines.len();
+        }
+        Ok(())
+    }
+
     /// Adds the word with which a register starts.
     pub fn push_reg(
         &mut self,
@@ -154,9 +204,7 @@ impl Stimulus {
         ensures ok { OnOk result (Adds self.old self.new (reg_line cell (tainted value taint))) }
         ensures err { OnErr result (self.new ≡ self.old) }
     {
-        self.lines.push(StimLine::Reg { cell, value, taint })?;
-        self.starts = self.lines.len();
-        Ok(())
+        self.push_line(StimLine::Reg { cell, value, taint }, None)
     }
 
     /// Adds the word with which a memory starts at an address, which counts from the memory's offset on.
@@ -174,14 +222,13 @@ impl Stimulus {
             (Adds self.old self.new (mem_line cell address (tainted value taint))) }
         ensures err { OnErr result (self.new ≡ self.old) }
     {
-        self.lines.push(StimLine::Mem {
+        let line = StimLine::Mem {
             cell,
             address,
             value,
             taint,
-        })?;
-        self.starts = self.lines.len();
-        Ok(())
+        };
+        self.push_line(line, None)
     }
 
     /// Adds the release of a net by a name that wasn't released before.
@@ -193,8 +240,7 @@ impl Stimulus {
         ensures err { OnErr result (self.new ≡ self.old) }
     {
         let wire = copied(alloc, wire)?;
-        self.lines.push(StimLine::Release { name, wire })?;
-        Ok(())
+        self.push_line(StimLine::Release { name, wire }, None)
     }
 
     /// Adds the cycle, counted from 0, of the sets that follow.
@@ -203,8 +249,7 @@ impl Stimulus {
         ensures ok { OnOk result (Adds self.old self.new (cycle_line cycle)) }
         ensures err { OnErr result (self.new ≡ self.old) }
     {
-        self.lines.push(StimLine::Cycle(cycle))?;
-        Ok(())
+        self.push_line(StimLine::Cycle(cycle), None)
     }
 
     /// Adds the word that an input port holds from the last cycle line on.
@@ -220,8 +265,7 @@ impl Stimulus {
         ensures ok { OnOk result (Adds self.old self.new (set_line port (tainted value taint))) }
         ensures err { OnErr result (self.new ≡ self.old) }
     {
-        self.lines.push(StimLine::Set { port, value, taint })?;
-        Ok(())
+        self.push_line(StimLine::Set { port, value, taint }, None)
     }
 }
 

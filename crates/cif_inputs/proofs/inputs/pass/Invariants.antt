@@ -1,7 +1,8 @@
 use Rattle.std.proofs.Common.{◌≡◌, List, map}
 use Rattle.cif_defs.specs.declared.nets.Wire.{Wire}
+use Rattle.cif_stimulus.specs.Names.{target_of}
 use Rattle.cif_stimulus.specs.StimulusView.{line_seen}
-use Rattle.cif_inputs.specs.Cursor.{target_of, Passes}
+use Rattle.cif_inputs.specs.Cursor.{Passes}
 use Rattle.cif_inputs.proofs.inputs.pass.Given as goal
 
 abbrev pub invariant-loop-number : goal.invariant-loop-number

@@ -1,7 +1,7 @@
 use Rattle.std.proofs.Common.{◌≡◌, map, take}
-use Rattle.cif_stimulus.specs.StimulusView.{line_seen}
-use Rattle.cif_inputs.specs.Cursor.{target_of}
+use Rattle.cif_defs.specs.Accepted.{netlist_of}
+use Rattle.cif_stimulus.specs.Names.{target_of}
 use Rattle.cif_inputs.proofs.inputs.targets_of.Given as goal
 
-abbrev pub invariant-loop-line : goal.invariant-loop-line
-invariant-loop-line l = l.targets.items ≡ map (target_of l.ports) (map line_seen (take l.line-index l.lines))
+abbrev pub invariant-loop-number : goal.invariant-loop-number
+invariant-loop-number l = l.targets.items ≡ map (target_of (netlist_of l.netlist).inputs) (take l.number l.stimulus.lines)

@@ -25,10 +25,10 @@ taint_of-requires-clause-taints c = taints_found (bit c.args.taints.now) c.cell-
 pub returns-clause-values : goal.returns-clause-values
 returns-clause-values c = λ _ stored.
     outputs_values_found (net_of c.args.case.now) c.args.number c.cell-cell.result.now stored c.deref.result.now _ _ c.deref-4.result.now c.outputs.result.now c.args.values.now _ c.cell-cell.ensures.wired c.requires.role c.requires.as_many_values c.cell-cell.ensures.is
-    c.outputs.ensures c.deref.ensures.value c.in_ok-operand_values.ensures c.in_ok-words.ensures c.deref-4.ensures.value c.write_words.ensures
+    c.outputs.ensures c.deref.ensures.value c.in_ok-operand_values.ensures c.in_ok-words.ensures c.deref-4.ensures.value c.write_words.ensures.values
 
 pub returns-clause-taints : goal.returns-clause-taints
 returns-clause-taints c = λ _ stored t.
-    outputs_taints_found (net_of c.args.case.now) c.args.number c.cell-cell.result.now stored t (is_released c.args.case.now.stimulus.lines) c.released.result.now c.deref-2.result.now c.deref-3.result.now _ _ _ c.deref-5.result.now c.outputs-2.result.now c.args.values.now c.args.taints.now _
-    c.cell-cell.ensures.wired c.requires.role c.requires.as_many_taints c.released.ensures c.cell-cell.ensures.is c.cell-cell.ensures.fitted
-    c.outputs-2.ensures c.deref-2.ensures.value c.deref-3.ensures.value c.in_ok-operand_values.ensures c.in_ok-operand_taints.ensures c.in_ok-word_taints.ensures c.deref-5.ensures.value c.write_words-2.ensures
+    outputs_taints_found (net_of c.args.case.now) c.args.number c.cell-cell.result.now stored t (is_released c.args.case.now.stimulus.lines) c.released-released.result.now c.deref-2.result.now c.deref-3.result.now _ _ _ c.deref-5.result.now c.outputs.result.now c.args.values.now c.args.taints.now _
+    c.cell-cell.ensures.wired c.requires.role c.requires.as_many_taints c.released-released.ensures c.cell-cell.ensures.is c.cell-cell.ensures.fitted
+    c.outputs.ensures c.deref-2.ensures.value c.deref-3.ensures.value c.in_ok-operand_values.ensures c.in_ok-operand_taints.ensures c.in_ok-word_taints.ensures c.deref-5.ensures.value c.write_words.ensures.taints

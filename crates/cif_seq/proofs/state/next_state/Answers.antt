@@ -2,7 +2,7 @@ use Rattle.std.proofs.Common.{refl}
 use Rattle.cif_defs.specs.Words.{bit}
 use Rattle.cif_defs.specs.Accepted.{netlist_of}
 use Rattle.cif_cells.proofs.MemoryCells.{memory_ports}
-use Rattle.cif_seq.proofs.StartWords.{cell_read}
+use Rattle.cif_starts.proofs.StartWords.{cell_read}
 use Rattle.cif_seq.proofs.CellStates.{fitted_read, narrow_read, role_read, numbers_read, values_long, taints_long}
 use Rattle.cif_seq.proofs.state.next_state.Goals as goal
 

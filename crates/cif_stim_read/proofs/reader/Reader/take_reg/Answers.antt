@@ -13,8 +13,8 @@ pub returns-then-not-branch-clause-err : goal.returns-then-not-branch-clause-err
 returns-then-not-branch-clause-err c =
     let raw = c.args.netlist.now in
     let word = word_seen c.args.word.now in
-    let found = c.in-Some.ensures.is ∙ ap (register_named (netlist_of raw)) c.items.ensures in
-    let key = c.items-2.ensures ∙ c.name.ensures ∙ register_name raw c.args.cell c.in-Some.register.now found in
+    let found = c.in-Some.ensures.is ∙ ap (register_named (netlist_of raw)) c.items-name.ensures in
+    let key = c.items.ensures ∙ c.name.ensures ∙ register_name raw c.args.cell c.in-Some.register.now found in
     given_again raw c.args.self.now.stimulus.cycles (reverse c.args.self.now.stimulus.lines) c.args.number (reg_line c.args.cell word)
     (may_start c.args.self.now c.is_some.result _ c.requires.state c.is_some.ensures c.if-is_some.false)
     (sym (ap is_some found)) refl
@@ -25,34 +25,34 @@ pub read-requires-clause-value : goal.read-requires-clause-value
 read-requires-clause-value c =
     let raw = c.args.netlist.now in
     let word = word_seen c.args.word.now in
-    let found = c.in-Some.ensures.is ∙ ap (register_named (netlist_of raw)) c.items.ensures in
+    let found = c.in-Some.ensures.is ∙ ap (register_named (netlist_of raw)) c.items-name.ensures in
     value_fits word _ (fits_width word _ _ _ _ c.has_width.ensures c.number.ensures c.if-not-has_width.false) (register_small raw c.args.cell c.in-Some.register.now c.in-Some.ensures.accepted found)
 
 pub read-requires-clause-taint : goal.read-requires-clause-taint
 read-requires-clause-taint c =
     let raw = c.args.netlist.now in
     let word = word_seen c.args.word.now in
-    let found = c.in-Some.ensures.is ∙ ap (register_named (netlist_of raw)) c.items.ensures in
+    let found = c.in-Some.ensures.is ∙ ap (register_named (netlist_of raw)) c.items-name.ensures in
     taint_fits word _ (fits_width word _ _ _ _ c.has_width.ensures c.number.ensures c.if-not-has_width.false) (register_small raw c.args.cell c.in-Some.register.now c.in-Some.ensures.accepted found)
 
 pub returns-clause-state : goal.returns-clause-state
 returns-clause-state c =
     let raw = c.args.netlist.now in
     let word = word_seen c.args.word.now in
-    let found = c.in-Some.ensures.is ∙ ap (register_named (netlist_of raw)) c.items.ensures in
-    let key = c.items-2.ensures ∙ c.name.ensures ∙ register_name raw c.args.cell c.in-Some.register.now found in
-    let P : TaintedWord → Type 0 = λ w. Adds c.args.self.now.stimulus c.push_reg.new.self (reg_line c.args.cell w) in
-    let added = subst P c.in_ok-bits.ensures c.in_ok-push_reg.ensures.ok in
-    read_reg c.args.self.now (record { stimulus = c.push_reg.new.self; opened = c.args.self.now.opened; registers = c.add.new.self; rows = c.args.self.now.rows; released = c.args.self.now.released; ports = c.args.self.now.ports }) c.args.cell word c.requires.state added refl (λ other. c.in_ok-add.ensures.added other ∙ ap (λ name. bytes_eq name other || has c.args.self.now.registers other) key) refl refl refl
+    let found = c.in-Some.ensures.is ∙ ap (register_named (netlist_of raw)) c.items-name.ensures in
+    let key = c.items.ensures ∙ c.name.ensures ∙ register_name raw c.args.cell c.in-Some.register.now found in
+    let P : TaintedWord → Type 0 = λ w. Adds c.args.self.now.stimulus c.push_line.new.self (reg_line c.args.cell w) in
+    let added = subst P c.in_ok-bits.ensures c.in_ok-push_line.ensures.ok in
+    read_reg c.args.self.now (record { stimulus = c.push_line.new.self; opened = c.args.self.now.opened; registers = c.add.new.self; rows = c.args.self.now.rows; released = c.args.self.now.released; ports = c.args.self.now.ports }) c.args.cell word c.requires.state added refl (λ other. c.in_ok-add.ensures.added other ∙ ap (λ name. bytes_eq name other || has c.args.self.now.registers other) key) refl refl refl
 
 pub returns-clause-ok : goal.returns-clause-ok
 returns-clause-ok c =
     let raw = c.args.netlist.now in
     let word = word_seen c.args.word.now in
-    let found = c.in-Some.ensures.is ∙ ap (register_named (netlist_of raw)) c.items.ensures in
-    let key = c.items-2.ensures ∙ c.name.ensures ∙ register_name raw c.args.cell c.in-Some.register.now found in
-    let P : TaintedWord → Type 0 = λ w. Adds c.args.self.now.stimulus c.push_reg.new.self (reg_line c.args.cell w) in
-    let added = subst P c.in_ok-bits.ensures c.in_ok-push_reg.ensures.ok in
+    let found = c.in-Some.ensures.is ∙ ap (register_named (netlist_of raw)) c.items-name.ensures in
+    let key = c.items.ensures ∙ c.name.ensures ∙ register_name raw c.args.cell c.in-Some.register.now found in
+    let P : TaintedWord → Type 0 = λ w. Adds c.args.self.now.stimulus c.push_line.new.self (reg_line c.args.cell w) in
+    let added = subst P c.in_ok-bits.ensures c.in_ok-push_line.ensures.ok in
     record {
       line = reg_line c.args.cell word;
       read = good raw c.args.self.now.stimulus.cycles (reverse c.args.self.now.stimulus.lines) c.args.number (reg_line c.args.cell word)

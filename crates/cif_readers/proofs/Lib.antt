@@ -1,0 +1,5 @@
+pub mod NoteLaws
+mod MarkLaws
+mod Gathering
+mod Counting
+mod TableLaws

@@ -1,0 +1,254 @@
+-- A cycle begins: its sources are set, one after another, from what the cycle before held or from nothing.
+use Rattle.std.specs.Prelude.{ℕ, ◌+◌, ◌<◌, ◌≤◌, ◌≡◌, ◌≢◌, ◌==◌, ◌⊎◌, Bool, true, false, List, [], length, get_or, slice_set, refl}
+use Rattle.std.proofs.Common.{arith, ap, sym, ◌∙◌, cond, inl, inr, subst, get_or-set_same, get_or-set_other}
+use Rattle.std.proofs.lemmas.Bool.Decides.{nat_tests}
+use Rattle.cif_defs.specs.Words.{Word, bit}
+use Rattle.cif_defs.specs.Evaluation.{is_of_cell}
+use Rattle.cif_defs.specs.Loop.{IsLevelled, is_passing}
+use Rattle.cif_defs.specs.Netlist.{IsWired, Netlist, cell_at, driver_of, role_at}
+use Rattle.cif_defs.specs.Cells.{shape_of}
+use Rattle.cif_defs.specs.Memory.{read_address, read_taint, read_word}
+use Rattle.cif_defs.specs.Run.{driver_value, driver_value_at_depth_0, operand_words, register_bit}
+use Rattle.cif_defs.specs.TaintRun.{driver_taint, driver_taint_at_depth_0, operand_taints, register_taint}
+use Rattle.cif_defs.specs.declared.kinds.Role.{Role}
+use Rattle.cif_defs.specs.declared.kinds.Role.TheVariants.{CarriedOver, Combinational, MemoryBlock, PlainRegister, ResetRegister}
+use Rattle.cif_defs.specs.declared.nets.Driver.{Driver}
+use Rattle.cif_defs.specs.declared.nets.Driver.TheVariants.{Input, Output, Register, Read, Clock}
+use Rattle.cif_defs.proofs.Levels.{driver_rank, given_at_0, register_rank}
+use Rattle.cif_defs.proofs.Orders.{has_place, in_range, place_in}
+use Rattle.cif_defs.proofs.TaintSettles.{taint_at_0}
+use Rattle.cif_readers.specs.Reads.{Notes}
+use Rattle.cif_shown.specs.Shown.{AreBegun, AreKept, AreShown, AreSources, Given, KeepsAt, MayBegin, Shows, StandsFrom, Waits, is_plain, is_source, is_source_by}
+use Rattle.cif_shown.proofs.Passes.{PassedStay, still_or_waits}
+
+-- ---- a source is set
+
+plain_rank : (role : Role) (k : ℕ) → is_plain role ≡ true → register_rank role k ≤ 0
+plain_rank PlainRegister k h = omega arith
+plain_rank Combinational k h = absurd (cc)
+plain_rank ResetRegister k h = absurd (cc)
+plain_rank MemoryBlock k h = absurd (cc)
+plain_rank CarriedOver k h = absurd (cc)
+
+no_rank : (n : Netlist) (r : ℕ → ℕ) (d : Driver) → is_source_by n d ≡ true → driver_rank n r d ≤ 0
+no_rank n r (Input p i) h = omega arith
+no_rank n r (Register c i) h = plain_rank (role_at n c) (r c) h
+no_rank n r (Output c p i) h = absurd (cc)
+no_rank n r (Read c p i) h = absurd (cc)
+no_rank n r Clock h = absurd (cc)
+
+no_ranks : ℕ → ℕ
+no_ranks c = 0
+
+-- a source shows what it is given, whatever the other bits are
+source_shows : (n : Netlist) (g : Given) (values taints : List Bool) (b : ℕ) (x y : Bool) → is_source n b ≡ true → b < length values → b < length taints → x ≡ driver_value_at_depth_0 n g.stored g.input (driver_of n b)
+    → y ≡ cond (g.released b) false (driver_taint_at_depth_0 n g.state g.taint_input (driver_of n b)) → Shows n g (slice_set values b x) (slice_set taints b y) b
+source_shows n g values taints b x y s lv lt ex ey =
+    let low : driver_rank n no_ranks (driver_of n b) ≤ 0 = no_rank n no_ranks (driver_of n b) s in
+    record {
+      value = get_or-set_same values b x false lv ∙ ex ∙ given_at_0 n g.stored g.input no_ranks (bit (slice_set values b x)) (driver_of n b) low;
+      taint = get_or-set_same taints b y false lt ∙ ey ∙ ap (λ z. cond (g.released b) false z) (taint_at_0 n g.stored (bit (slice_set values b x)) g.state g.taint_input no_ranks (bit (slice_set taints b y)) (driver_of n b) low);
+    }
+
+nobody_passed : (n : Netlist) (order : List ℕ) (values taints new_values new_taints : List Bool) → PassedStay n order 0 values taints new_values new_taints
+nobody_passed n order values taints new_values new_taints = λ c q j x e l k h. absurd (omega arith)
+
+same_or_not : (i j : ℕ) → (i ≡ j) ⊎ (i ≢ j)
+same_or_not i j = search arith
+
+set_other : (n : Netlist) (g : Given) (order sources : List ℕ) (i b z : ℕ) (x y : Bool) (values taints marks new_marks : List Bool) → IsWired n → IsLevelled n order → get_or sources i 0 ≡ b → z ≢ b
+    → Notes n values taints (slice_set values b x) (slice_set taints b y) marks new_marks → Shows n g values taints z ⊎ (Waits n order 0 marks z ⊎ StandsFrom sources i z)
+    → Shows n g (slice_set values b x) (slice_set taints b y) z ⊎ (Waits n order 0 new_marks z ⊎ StandsFrom sources (i + 1) z)
+set_other n g order sources i b z x y values taints marks new_marks w o at d m (inl h) =
+    elim (still_or_waits n g order 0 z values taints (slice_set values b x) (slice_set taints b y) marks new_marks w o m (nobody_passed n order values taints (slice_set values b x) (slice_set taints b y))
+    (get_or-set_other values b z x false d) (get_or-set_other taints b z y false d) h) [ inl k ↦ inl k | inr k ↦ inr (inl k) ]
+set_other n g order sources i b z x y values taints marks new_marks w o at d m (inr (inl h)) = inr (inl (record {
+  place = h.place;
+  not_passed = h.not_passed;
+  inside = h.inside;
+  drives = h.drives;
+  marked = m.kept (get_or order h.place 0) h.marked;
+}))
+set_other n g order sources i b z x y values taints marks new_marks w o at d m (inr (inr h)) = inr (inr (record {
+  place = h.place;
+  not_passed = elim (same_or_not h.place i) [
+    | inl e ↦ absurd (d (sym h.here ∙ ap (λ k. get_or sources k 0) e ∙ at))
+    | inr k ↦ (let l : i ≤ h.place = h.not_passed in search arith)
+  ];
+  inside = h.inside;
+  here = h.here;
+}))
+
+-- one more source is set
+pub source_set : (n : Netlist) (g : Given) (order sources : List ℕ) (i b : ℕ) (x y : Bool) (values taints marks new_marks : List Bool) → IsWired n → IsLevelled n order → AreSources n sources → i < length sources → b ≡ get_or sources i 0 → length values ≡ length n.drivers
+    → length taints ≡ length n.drivers → x ≡ driver_value_at_depth_0 n g.stored g.input (driver_of n b) → y ≡ cond (g.released b) false (driver_taint_at_depth_0 n g.state g.taint_input (driver_of n b))
+    → Notes n values taints (slice_set values b x) (slice_set taints b y) marks new_marks → AreBegun n g order sources i marks values taints → AreBegun n g order sources (i + 1) new_marks (slice_set values b x) (slice_set taints b y)
+unfolding AreBegun
+source_set n g order sources i b x y values taints marks new_marks w o s l at sv st ex ey m h = λ z. elim (same_or_not z b) [
+  | inl e ↦ (let inside : get_or sources i 0 < length n.drivers = s.inside i l in
+      let here = source_shows n g values taints b x y (ap (is_source n) at ∙ s.only i l) (omega arith) (omega arith) ex ey in
+      inl (subst (λ (k : ℕ). Shows n g (slice_set values b x) (slice_set taints b y) k) (sym e) here))
+  | inr d ↦ set_other n g order sources i b z x y values taints marks new_marks w o (sym at) d m (h z)
+]
+
+begin_bit : (n : Netlist) (g : Given) (order sources : List ℕ) (b : ℕ) (values taints marks : List Bool) → AreSources n sources → Shows n g values taints b ⊎ (Waits n order 0 marks b ⊎ (is_source n b ≡ true))
+    → Shows n g values taints b ⊎ (Waits n order 0 marks b ⊎ StandsFrom sources 0 b)
+begin_bit n g order sources b values taints marks s (inl h) = inl h
+begin_bit n g order sources b values taints marks s (inr (inl h)) = inr (inl h)
+begin_bit n g order sources b values taints marks s (inr (inr h)) = inr (inr (s.each b h))
+
+pub sources_begun : (n : Netlist) (g : Given) (order sources : List ℕ) (values taints marks : List Bool) → AreSources n sources → MayBegin n g order marks values taints → AreBegun n g order sources 0 marks values taints
+unfolding AreBegun MayBegin
+sources_begun n g order sources values taints marks s h = λ b. begin_bit n g order sources b values taints marks s (h b)
+
+done_bit : (n : Netlist) (g : Given) (order sources : List ℕ) (i b : ℕ) (values taints marks : List Bool) → length sources ≤ i → Shows n g values taints b ⊎ (Waits n order 0 marks b ⊎ StandsFrom sources i b) → Shows n g values taints b ⊎ Waits n order 0 marks b
+done_bit n g order sources i b values taints marks l (inl h) = inl h
+done_bit n g order sources i b values taints marks l (inr (inl h)) = inr h
+done_bit n g order sources i b values taints marks l (inr (inr h)) = absurd (let p : i ≤ h.place = h.not_passed in let q : h.place < length sources = h.inside in omega arith)
+
+pub sources_done : (n : Netlist) (g : Given) (order sources : List ℕ) (i : ℕ) (values taints marks : List Bool) → length sources ≤ i → AreBegun n g order sources i marks values taints → AreShown n g order 0 marks values taints
+unfolding AreBegun AreShown
+sources_done n g order sources i values taints marks l h = λ b. done_bit n g order sources i b values taints marks l (h b)
+
+-- ---- from the cycle before
+
+-- a cell that drives a bit and is marked stands in the order
+waits_at : (n : Netlist) (order : List ℕ) (c b : ℕ) (marks : List Bool) → IsLevelled n order → is_passing (role_at n c) ≡ true → is_of_cell c (driver_of n b) ≡ true → bit marks c ≡ true → Waits n order 0 marks b
+waits_at n order c b marks o p is m =
+    let at = has_place n order c o p in
+    record {
+      place = place_in order c;
+      not_passed = omega arith;
+      inside = at.0;
+      drives = ap (λ z. is_of_cell z (driver_of n b)) at.1 ∙ is;
+      marked = ap (bit marks) at.1 ∙ m;
+    }
+
+own_cell : (c : ℕ) → (c == c) ≡ true
+own_cell c = grind (arith, nat_tests)
+
+-- where a driver gives the same as in the cycle before
+given_again : (n : Netlist) (before after : Given) (b : ℕ) (d : Driver) (values taints : List Bool) → driver_of n b ≡ d → ((k : ℕ) → before.released k ≡ after.released k)
+    → driver_value n before.stored before.input (bit values) d ≡ driver_value n after.stored after.input (bit values) d
+    → driver_taint n before.stored (bit values) before.state before.taint_input (bit taints) d ≡ driver_taint n after.stored (bit values) after.state after.taint_input (bit taints) d → Shows n before values taints b → Shows n after values taints b
+given_again n before after b d values taints e r ev et h = record {
+  value = h.value ∙ ap (driver_value n before.stored before.input (bit values)) e ∙ ev ∙ sym (ap (driver_value n after.stored after.input (bit values)) e);
+  taint = h.taint ∙ ap (λ x. cond x false (driver_taint n before.stored (bit values) before.state before.taint_input (bit taints) (driver_of n b))) (r b)
+      ∙ ap (λ x. cond (after.released b) false (driver_taint n before.stored (bit values) before.state before.taint_input (bit taints) x)) e
+      ∙ ap (λ x. cond (after.released b) false x) et
+      ∙ sym (ap (λ x. cond (after.released b) false (driver_taint n after.stored (bit values) after.state after.taint_input (bit taints) x)) e);
+}
+
+output_again : (n : Netlist) (before after : Given) (c p i : ℕ) (values : List Bool) → driver_value n before.stored before.input (bit values) (Output c p i) ≡ driver_value n after.stored after.input (bit values) (Output c p i)
+unfolding driver_value
+output_again n before after c p i values = refl
+
+output_taint_again : (n : Netlist) (before after : Given) (c p i : ℕ) (values taints : List Bool)
+    → driver_taint n before.stored (bit values) before.state before.taint_input (bit taints) (Output c p i) ≡ driver_taint n after.stored (bit values) after.state after.taint_input (bit taints) (Output c p i)
+unfolding driver_taint
+output_taint_again n before after c p i values taints = refl
+
+clock_again : (n : Netlist) (before after : Given) (values : List Bool) → driver_value n before.stored before.input (bit values) Clock ≡ driver_value n after.stored after.input (bit values) Clock
+unfolding driver_value
+clock_again n before after values = refl
+
+clock_taint_again : (n : Netlist) (before after : Given) (values taints : List Bool)
+    → driver_taint n before.stored (bit values) before.state before.taint_input (bit taints) Clock ≡ driver_taint n after.stored (bit values) after.state after.taint_input (bit taints) Clock
+unfolding driver_taint
+clock_taint_again n before after values taints = refl
+
+read_value_again : (n : Netlist) (before after : Given) (c r i : ℕ) (values : List Bool) → KeepsAt before after c → driver_value n before.stored before.input (bit values) (Read c r i) ≡ driver_value n after.stored after.input (bit values) (Read c r i)
+unfolding driver_value
+read_value_again n before after c r i values k = ap (λ (w : Word). bit (read_word (shape_of (cell_at n c)) (read_address (shape_of (cell_at n c)) (operand_words (bit values) (cell_at n c)) r) w) i) (sym k.value)
+
+read_taint_again : (n : Netlist) (before after : Given) (c r i : ℕ) (values taints : List Bool) → KeepsAt before after c
+    → driver_taint n before.stored (bit values) before.state before.taint_input (bit taints) (Read c r i) ≡ driver_taint n after.stored (bit values) after.state after.taint_input (bit taints) (Read c r i)
+unfolding driver_taint
+read_taint_again n before after c r i values taints k =
+    ap (λ (x : Bool). bit (read_taint (shape_of (cell_at n c)) (read_address (shape_of (cell_at n c)) (operand_words (bit values) (cell_at n c)) r) (read_address (shape_of (cell_at n c)) (operand_taints (bit taints) (cell_at n c)) r) x (get_or before.state.stored c [])) i) (sym k.flag)
+    ∙ ap (λ (w : Word). bit (read_taint (shape_of (cell_at n c)) (read_address (shape_of (cell_at n c)) (operand_words (bit values) (cell_at n c)) r) (read_address (shape_of (cell_at n c)) (operand_taints (bit taints) (cell_at n c)) r) (get_or after.state.flags c false) w) i) (sym k.taint)
+
+register_value_again : (n : Netlist) (before after : Given) (c i : ℕ) (values : List Bool) → KeepsAt before after c → driver_value n before.stored before.input (bit values) (Register c i) ≡ driver_value n after.stored after.input (bit values) (Register c i)
+unfolding driver_value
+register_value_again n before after c i values k = ap (λ (w : Word). register_bit (role_at n c) (cell_at n c) (bit values) w i) (sym k.value)
+
+register_taint_again : (n : Netlist) (before after : Given) (c i : ℕ) (values taints : List Bool) → KeepsAt before after c
+    → driver_taint n before.stored (bit values) before.state before.taint_input (bit taints) (Register c i) ≡ driver_taint n after.stored (bit values) after.state after.taint_input (bit taints) (Register c i)
+unfolding driver_taint
+register_taint_again n before after c i values taints k =
+    ap (λ (w : Word). register_taint (role_at n c) (cell_at n c) (bit values) (bit taints) w (get_or before.state.stored c []) i) (sym k.value)
+    ∙ ap (λ (w : Word). register_taint (role_at n c) (cell_at n c) (bit values) (bit taints) (get_or after.stored c []) w i) (sym k.taint)
+
+-- a bit of a passing cell: marked, it waits, and else it shows what it showed
+cell_again : (n : Netlist) (before after : Given) (order : List ℕ) (b c : ℕ) (d : Driver) (values taints marks : List Bool) (m : Bool) → IsLevelled n order → driver_of n b ≡ d → is_of_cell c d ≡ true → is_passing (role_at n c) ≡ true → bit marks c ≡ m
+    → (bit marks c ≡ false → Shows n after values taints b) → Shows n after values taints b ⊎ (Waits n order 0 marks b ⊎ (is_source n b ≡ true))
+cell_again n before after order b c d values taints marks true o e is p f h = inr (inl (waits_at n order c b marks o p (ap (is_of_cell c) e ∙ is) f))
+cell_again n before after order b c d values taints marks false o e is p f h = inl (h f)
+
+register_again : (n : Netlist) (before after : Given) (order : List ℕ) (b c i : ℕ) (values taints marks : List Bool) (role : Role) → IsWired n → IsLevelled n order → ((k : ℕ) → before.released k ≡ after.released k) → (bit marks c ≡ false → KeepsAt before after c)
+    → driver_of n b ≡ Register c i → role_at n c ≡ role → Shows n before values taints b → Shows n after values taints b ⊎ (Waits n order 0 marks b ⊎ (is_source n b ≡ true))
+register_again n before after order b c i values taints marks PlainRegister w o r k e f h = inr (inr (ap (is_source_by n) e ∙ ap is_plain f))
+register_again n before after order b c i values taints marks ResetRegister w o r k e f h =
+    cell_again n before after order b c (Register c i) values taints marks (bit marks c) o e (own_cell c) (ap is_passing f) refl
+    (λ clear. given_again n before after b (Register c i) values taints e r (register_value_again n before after c i values (k clear)) (register_taint_again n before after c i values taints (k clear)) h)
+register_again n before after order b c i values taints marks Combinational w o r k e f h = absurd (elim (w.register_role b c i e) [ inl q ↦ (let z : PlainRegister ≡ Combinational = sym q ∙ f in absurd (cc)) | inr q ↦ (let z : ResetRegister ≡ Combinational = sym q ∙ f in absurd (cc)) ])
+register_again n before after order b c i values taints marks MemoryBlock w o r k e f h = absurd (elim (w.register_role b c i e) [ inl q ↦ (let z : PlainRegister ≡ MemoryBlock = sym q ∙ f in absurd (cc)) | inr q ↦ (let z : ResetRegister ≡ MemoryBlock = sym q ∙ f in absurd (cc)) ])
+register_again n before after order b c i values taints marks CarriedOver w o r k e f h = absurd (elim (w.register_role b c i e) [ inl q ↦ (let z : PlainRegister ≡ CarriedOver = sym q ∙ f in absurd (cc)) | inr q ↦ (let z : ResetRegister ≡ CarriedOver = sym q ∙ f in absurd (cc)) ])
+
+again_by : (n : Netlist) (before after : Given) (order : List ℕ) (b : ℕ) (values taints marks : List Bool) (d : Driver) → IsWired n → IsLevelled n order → ((k : ℕ) → before.released k ≡ after.released k) → ((c : ℕ) → bit marks c ≡ false → KeepsAt before after c)
+    → driver_of n b ≡ d → Shows n before values taints b → Shows n after values taints b ⊎ (Waits n order 0 marks b ⊎ (is_source n b ≡ true))
+again_by n before after order b values taints marks (Input p i) w o r k e h = inr (inr (ap (is_source_by n) e))
+again_by n before after order b values taints marks Clock w o r k e h = inl (given_again n before after b Clock values taints e r (clock_again n before after values) (clock_taint_again n before after values taints) h)
+again_by n before after order b values taints marks (Output c p i) w o r k e h = inl (given_again n before after b (Output c p i) values taints e r (output_again n before after c p i values) (output_taint_again n before after c p i values taints) h)
+again_by n before after order b values taints marks (Register c i) w o r k e h = register_again n before after order b c i values taints marks (role_at n c) w o r (k c) e refl h
+again_by n before after order b values taints marks (Read c p i) w o r k e h =
+    cell_again n before after order b c (Read c p i) values taints marks (bit marks c) o e (own_cell c) (ap is_passing (w.read_role b c p i e)) refl
+    (λ clear. given_again n before after b (Read c p i) values taints e r (read_value_again n before after c p i values (k c clear)) (read_taint_again n before after c p i values taints (k c clear)) h)
+
+-- a cycle may begin with what the one before held, where the cells are marked that store something else
+pub begins_again : (n : Netlist) (before after : Given) (order : List ℕ) (values taints marks : List Bool) → IsWired n → IsLevelled n order → ((k : ℕ) → before.released k ≡ after.released k) → AreKept before after marks → ((b : ℕ) → Shows n before values taints b)
+    → MayBegin n after order marks values taints
+unfolding MayBegin AreKept
+begins_again n before after order values taints marks w o r k h = λ b. again_by n before after order b values taints marks (driver_of n b) w o r k refl (h b)
+
+-- ---- from nothing
+
+clear_register : (n : Netlist) (g : Given) (order : List ℕ) (b c i : ℕ) (values taints marks : List Bool) (role : Role) → IsWired n → IsLevelled n order → (c < length n.cells → bit marks c ≡ true) → driver_of n b ≡ Register c i → role_at n c ≡ role
+    → Shows n g values taints b ⊎ (Waits n order 0 marks b ⊎ (is_source n b ≡ true))
+clear_register n g order b c i values taints marks PlainRegister w o m e f = inr (inr (ap (is_source_by n) e ∙ ap is_plain f))
+clear_register n g order b c i values taints marks ResetRegister w o m e f =
+    inr (inl (waits_at n order c b marks o (ap is_passing f) (ap (is_of_cell c) e ∙ own_cell c) (m (in_range n c (ap is_passing f)))))
+clear_register n g order b c i values taints marks Combinational w o m e f = absurd (elim (w.register_role b c i e) [ inl q ↦ (let z : PlainRegister ≡ Combinational = sym q ∙ f in absurd (cc)) | inr q ↦ (let z : ResetRegister ≡ Combinational = sym q ∙ f in absurd (cc)) ])
+clear_register n g order b c i values taints marks MemoryBlock w o m e f = absurd (elim (w.register_role b c i e) [ inl q ↦ (let z : PlainRegister ≡ MemoryBlock = sym q ∙ f in absurd (cc)) | inr q ↦ (let z : ResetRegister ≡ MemoryBlock = sym q ∙ f in absurd (cc)) ])
+clear_register n g order b c i values taints marks CarriedOver w o m e f = absurd (elim (w.register_role b c i e) [ inl q ↦ (let z : PlainRegister ≡ CarriedOver = sym q ∙ f in absurd (cc)) | inr q ↦ (let z : ResetRegister ≡ CarriedOver = sym q ∙ f in absurd (cc)) ])
+
+clock_value : (n : Netlist) (g : Given) (v : ℕ → Bool) → driver_value n g.stored g.input v Clock ≡ false
+unfolding driver_value
+clock_value n g v = refl
+
+clock_taint : (n : Netlist) (g : Given) (v t : ℕ → Bool) → driver_taint n g.stored v g.state g.taint_input t Clock ≡ false
+unfolding driver_taint
+clock_taint n g v t = refl
+
+released_false : (r : Bool) → cond r false false ≡ false
+released_false true = refl
+released_false false = refl
+
+clear_by : (n : Netlist) (g : Given) (order : List ℕ) (b : ℕ) (values taints marks : List Bool) (d : Driver) → IsWired n → IsLevelled n order → bit values b ≡ false → bit taints b ≡ false → ((c : ℕ) → c < length n.cells → bit marks c ≡ true) → driver_of n b ≡ d
+    → Shows n g values taints b ⊎ (Waits n order 0 marks b ⊎ (is_source n b ≡ true))
+clear_by n g order b values taints marks (Input p i) w o ev et m e = inr (inr (ap (is_source_by n) e))
+clear_by n g order b values taints marks Clock w o ev et m e = inl (record {
+  value = ev ∙ sym (ap (driver_value n g.stored g.input (bit values)) e ∙ clock_value n g (bit values));
+  taint = et ∙ sym (ap (λ d. cond (g.released b) false (driver_taint n g.stored (bit values) g.state g.taint_input (bit taints) d)) e ∙ ap (λ x. cond (g.released b) false x) (clock_taint n g (bit values) (bit taints)) ∙ released_false (g.released b));
+})
+clear_by n g order b values taints marks (Output c p i) w o ev et m e =
+    inr (inl (waits_at n order c b marks o (ap is_passing (w.output_role b c p i e)) (ap (is_of_cell c) e ∙ own_cell c) (m c (in_range n c (ap is_passing (w.output_role b c p i e))))))
+clear_by n g order b values taints marks (Read c p i) w o ev et m e =
+    inr (inl (waits_at n order c b marks o (ap is_passing (w.read_role b c p i e)) (ap (is_of_cell c) e ∙ own_cell c) (m c (in_range n c (ap is_passing (w.read_role b c p i e))))))
+clear_by n g order b values taints marks (Register c i) w o ev et m e = clear_register n g order b c i values taints marks (role_at n c) w o (m c) e refl
+
+-- a cycle may begin with all bits 0 and untainted, where all cells are marked
+pub begins_clear : (n : Netlist) (g : Given) (order : List ℕ) (values taints marks : List Bool) → IsWired n → IsLevelled n order → ((b : ℕ) → bit values b ≡ false) → ((b : ℕ) → bit taints b ≡ false) → ((c : ℕ) → c < length n.cells → bit marks c ≡ true)
+    → MayBegin n g order marks values taints
+unfolding MayBegin
+begins_clear n g order values taints marks w o ev et m = λ b. clear_by n g order b values taints marks (driver_of n b) w o (ev b) (et b) m refl

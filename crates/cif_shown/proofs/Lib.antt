@@ -1,0 +1,5 @@
+pub mod ByReads
+pub mod Unique
+pub mod Passes
+pub mod Begun
+pub mod Resting

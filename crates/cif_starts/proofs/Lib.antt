@@ -1,0 +1,3 @@
+pub mod StartLaws
+pub mod StartTable
+pub mod StartWords
