@@ -28,5 +28,3 @@ mod pages;
 mod state;
 #[cfg(test)]
 mod stimuli;
-#[cfg(test)]
-mod stimulus_calls;
