@@ -225,16 +225,8 @@ fn expect_failure<N: Run>(rt: &impl Abort, alloc: Global, core: &mut Core<N>) ->
     Ok(())
 }
 
-/// Threads may share such a value, and hand it on.
-fn goes_to_threads<T: Send + Sync>(_value: &T) {}
-
 /// A run by hand.
-fn by_hand<N: Run + Send + Sync>(
-    rt: &impl Abort,
-    alloc: Global,
-    case: Case,
-    plan: Plan,
-) -> Result<(), Fail>
+fn by_hand<N: Run>(rt: &impl Abort, alloc: Global, case: Case, plan: Plan) -> Result<(), Fail>
     requires case { case ≡ N.case }
     requires plan { plan ≡ N.plan }
     requires planned { IsPlanOf N.case N.plan }
@@ -247,7 +239,6 @@ fn by_hand<N: Run + Send + Sync>(
     let case = Arc::new(alloc, case)?;
     let plan = Arc::new(alloc, plan)?;
     let mut core = Core::<N>::new(alloc, case, plan, 2, 1)?;
-    goes_to_threads(&core);
     complete(rt, alloc, &mut core, 0)?;
     complete(rt, alloc, &mut core, 1)?;
     expect_wait(rt, &mut core)?;
