@@ -1,5 +1,5 @@
 -- From the checks of a module to its netlist.
-use Rattle.std.specs.Prelude.{ℕ, ◌≡◌, ◌≤◌, Bool, true, false, ◌==◌, List, [], ◌∷◌, filter, length, map, Option, Some, None, refl}
+use Rattle.std.specs.Prelude.{ℕ, ◌≡◌, ◌≤◌, Bool, false, ◌==◌, List, [], ◌∷◌, filter, length, map, Option, Some, None, refl}
 use Rattle.std.specs.List.{flat_map}
 use Rattle.std.proofs.Common.{arith, sym, ap, subst, ◌∙◌, cond, inl, inr}
 use Rattle.std.proofs.lemmas.List.{length-map}
@@ -16,8 +16,8 @@ use Rattle.cif_defs.specs.declared.raw_module.RawBit.TheVariants.{Net, Zero, One
 use Rattle.cif_defs.specs.declared.raw_module.RawCell.{RawCell}
 use Rattle.cif_defs.specs.declared.raw_module.Raw.{Raw}
 use Rattle.cif_defs.specs.Order.{IsInOrder}
-use Rattle.cif_checks.specs.Checks.{◌else_by◌, fault_if, first_fault, counts_fault, ports_fault, cells_fault, drivers_fault, driven_numbers, is_twice, clocks_fault, reads_fault, inits_fault, build_fault, ClockUse, IsAccepted, IsFirst}
-use Rattle.cif_cells.specs.Building.{clock_number, driver_read, driver_with, first_number, is_number, later_faults, net_number}
+use Rattle.cif_checks.specs.Checks.{◌else_by◌, fault_if, counts_fault, ports_fault, cells_fault, drivers_fault, driven_numbers, is_twice, clocks_fault, reads_fault, inits_fault, build_fault, ClockUse, IsAccepted, IsFirst}
+use Rattle.cif_cells.specs.Building.{clock_number, driver_read, first_number, is_number, later_faults, net_number}
 use Rattle.cif_cells.specs.ClockBit.{clock_of}
 use Rattle.cif_nets.specs.Clocks.{first_edge, uses_of}
 use Rattle.cif_nets.specs.Drives.{driven_by}

@@ -1,6 +1,5 @@
 -- To be accepted is to be within the counts and to pass all other checks.
-use Rattle.std.specs.Prelude.{ℕ, ◌<◌, ◌≤◌, ◌≡◌, ◌↔◌, nat_lt, Bool, true, false, List, length, map, sum, Option, Some, None, refl}
-use Rattle.std.proofs.Common.{sym, ap, ◌∙◌, cond}
+use Rattle.std.specs.Prelude.{ℕ, ◌≤◌, ◌≡◌, ◌↔◌, nat_lt, false, length, map, sum, Option, Some, None, refl}
 use Rattle.std.proofs.lemmas.Bool.{le-ltb, ltb-false}
 use Rattle.cif_defs.specs.RawModule.{net_numbers}
 use Rattle.cif_defs.specs.declared.raw_module.Raw.{Raw}

@@ -1,12 +1,12 @@
 -- Where the drivers of net bits lie: in a cell of the netlist, at a place that its word or its read port has.
-use Rattle.std.specs.Prelude.{ℕ, ◌+◌, ◌*◌, ◌<◌, ◌≤◌, ◌≡◌, ◌⊎◌, List, [], map, length, get_or, Option, Some, None, true, refl}
-use Rattle.std.proofs.Common.{arith, sym, ap, ◌∙◌, inl, inr}
+use Rattle.std.specs.Prelude.{ℕ, ◌+◌, ◌*◌, ◌<◌, ◌≤◌, ◌≡◌, ◌⊎◌, List, [], length, get_or, Option, Some, None, true}
+use Rattle.std.proofs.Common.{arith, sym, ap, inl, inr}
 use Rattle.std.proofs.lemmas.List.{get_or_past}
 use Rattle.std.proofs.Math.Nat.{mul-le-mul_right}
 use Rattle.cif_defs.specs.Kinds.{role_of}
 use Rattle.cif_defs.specs.Cells.{Cell, number_of, width}
 use Rattle.cif_defs.specs.Accepted.{netlist_of}
-use Rattle.cif_defs.specs.Netlist.{IsWired, cell_at, driver_of, no_cell, output_at, role_at}
+use Rattle.cif_defs.specs.Netlist.{IsWired, cell_at, driver_of, no_cell, role_at}
 use Rattle.cif_defs.specs.declared.kinds.Role.{Role}
 use Rattle.cif_defs.specs.declared.kinds.Role.TheVariants.{PlainRegister, ResetRegister, MemoryBlock, CarriedOver}
 use Rattle.cif_defs.specs.declared.kinds.Param.TheVariants.{RdPorts}

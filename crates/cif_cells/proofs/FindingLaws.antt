@@ -1,5 +1,5 @@
 -- What stands under a name, found by its place among names in byte order.
-use Rattle.std.specs.Prelude.{ℕ, zero, suc, ◌+◌, ◌<◌, ◌≡◌, Bool, true, false, not, ◌&&◌, List, [], ◌∷◌, ◌++◌, length, get_or, map, bytes_eq, Option, Some, None, option_map, is_some, refl}
+use Rattle.std.specs.Prelude.{ℕ, suc, ◌+◌, ◌<◌, ◌≡◌, Bool, true, false, not, ◌&&◌, List, [], ◌∷◌, ◌++◌, length, get_or, map, bytes_eq, Option, Some, None, option_map, is_some, refl}
 use Rattle.std.specs.List.{position_from}
 use Rattle.std.proofs.Common.{arith, sym, ap, ◌∙◌, subst, cond}
 use Rattle.std.proofs.lemmas.List.{append-nil, get_or-map, length-map}
@@ -15,10 +15,10 @@ use Rattle.cif_defs.specs.declared.raw_module.RawPort.{RawPort}
 use Rattle.cif_defs.specs.declared.raw_module.Raw.{Raw}
 use Rattle.cif_cells.specs.Building.{clock_number, is_number}
 use Rattle.cif_nets.specs.Drives.{driven_by}
-use Rattle.cif_cells.specs.Finding.{Named, all_named, bits_under, found_as, found_of, is_two_valued, missing, name_named, port_named, wire_if}
+use Rattle.cif_cells.specs.Finding.{Named, all_named, bits_under, found_as, found_of, is_two_valued, missing, port_named, wire_if}
 use Rattle.cif_nets.specs.Nets.{is_driven}
 use Rattle.cif_nets.specs.declared.drives.DrivenBy.{DrivenBy}
-use Rattle.cif_cells.specs.Wires.{HoldsWires, wire_of_name, wire_of_port}
+use Rattle.cif_cells.specs.Wires.{HoldsWires}
 use Rattle.cif_cells.specs.declared.finding.Wires.{Wires}
 use Rattle.cif_cells.proofs.BuildLaws.{first_is_number}
 use Rattle.cif_nets.proofs.NetLaws.{driven_has_driver}

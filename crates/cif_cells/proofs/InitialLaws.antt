@@ -2,7 +2,7 @@
 use Rattle.std.specs.Prelude.{ℕ, zero, suc, ◌<◌, ◌≡◌, List, [], ◌∷◌, length, map, get_or, refl}
 use Rattle.std.proofs.Common.{arith, sym, ap, ◌∙◌}
 use Rattle.std.proofs.lemmas.List.{length-map}
-use Rattle.cif_defs.specs.Words.{Word, bit}
+use Rattle.cif_defs.specs.Words.{bit}
 use Rattle.cif_defs.specs.Kinds.{role_of}
 use Rattle.cif_defs.specs.Cells.{Cell, state_bits, state_bits_by, width}
 use Rattle.cif_defs.specs.RawModule.{net_numbers, digits_given, output_bits}

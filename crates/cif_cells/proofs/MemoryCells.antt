@@ -1,9 +1,9 @@
 -- The ports and the numbers of memories.
-use Rattle.std.specs.Prelude.{ℕ, zero, suc, ◌*◌, ◌^◌, ◌<◌, ◌≤◌, ◌≡◌, ◌≢◌, List, [], ◌∷◌, map, length, get_or, Option, Some, None, refl}
+use Rattle.std.specs.Prelude.{ℕ, ◌*◌, ◌<◌, ◌≤◌, ◌≡◌, ◌≢◌, List, [], map, length, get_or, Option, Some, None, refl}
 use Rattle.std.proofs.Common.{arith, sym, ap, subst, ◌∙◌}
 use Rattle.std.proofs.lemmas.List.{length-map}
 use Rattle.std.proofs.Math.Nat.{mul-le-mul_left}
-use Rattle.cif_defs.specs.Words.{Word, operand}
+use Rattle.cif_defs.specs.Words.{Word}
 use Rattle.cif_defs.specs.Kinds.{role_of}
 use Rattle.cif_defs.specs.Cells.{Cell, number_of, width, state_bits, state_bits_by}
 use Rattle.cif_defs.specs.Fitted.{IsFitted, operand_widths, row_width}
@@ -15,7 +15,6 @@ use Rattle.cif_defs.specs.declared.kinds.Kind.{Kind}
 use Rattle.cif_defs.specs.declared.kinds.Kind.TheVariants.{Mem}
 use Rattle.cif_defs.specs.declared.kinds.Role.{Role}
 use Rattle.cif_defs.specs.declared.kinds.Role.TheVariants.{MemoryBlock}
-use Rattle.cif_defs.specs.declared.kinds.Param.{Param}
 use Rattle.cif_defs.specs.declared.kinds.Param.TheVariants.{Width, Size, Offset, Abits, RdPorts, WrPorts}
 use Rattle.cif_defs.specs.declared.raw_module.RawCell.{RawCell}
 use Rattle.cif_defs.specs.declared.raw_module.Raw.{Raw}
@@ -23,7 +22,7 @@ use Rattle.cif_checks.specs.Checks.{known_cell_fault, cell_fault, cell_fault_by,
 use Rattle.cif_cells.specs.NetlistView.{HaveMemoryNumbers}
 use Rattle.cif_kinds.specs.StateCells.{HasMemoryPorts, HasMemoryNumbers}
 use Rattle.cif_checks.proofs.CellChecks.{memory_narrow}
-use Rattle.cif_cells.proofs.FittedCells.{is_asked, number_kept, cell_passes, rows_below, each_cell, cells_pass}
+use Rattle.cif_cells.proofs.FittedCells.{number_kept, cell_passes, rows_below, each_cell, cells_pass}
 use Rattle.cif_kinds.proofs.OperandWidths.{length-at, operand_width}
 use Rattle.cif_nets.proofs.Passed.{IsFormed, is_formed, known_memory, passed}
 use Rattle.cif_checks.proofs.RawLaws.{number_small}

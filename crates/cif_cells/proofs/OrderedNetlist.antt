@@ -1,10 +1,10 @@
 -- The cells and the ports of a netlist stand in byte order of name, as those of its module do.
-use Rattle.std.specs.Prelude.{ℕ, ◌≡◌, Bool, true, false, List, [], ◌∷◌, map, filter, Option, Some, None, refl}
+use Rattle.std.specs.Prelude.{ℕ, ◌≡◌, Bool, List, [], ◌∷◌, map, filter, Option, Some, None, refl}
 use Rattle.std.specs.List.{AllByRecursion}
 use Rattle.std.specs.List.Sorted.{IsStrictlySortedBy}
 use Rattle.std.specs.Ordering.{nat_cmp}
 use Rattle.std.specs.Cmp.Lexicographic.{slice_cmp}
-use Rattle.std.proofs.Common.{sym, ap, ◌∙◌, subst, cond, Less}
+use Rattle.std.proofs.Common.{sym, ap, ◌∙◌, subst, Less}
 use Rattle.std.proofs.lemmas.Bool.{cond_both}
 use Rattle.cif_defs.specs.Table.{kind_of}
 use Rattle.cif_defs.specs.RawModule.{net_numbers}

@@ -1,31 +1,28 @@
 -- How many bits cells store.
-use Rattle.std.specs.Prelude.{ℕ, zero, suc, ◌+◌, ◌*◌, ◌^◌, ◌<◌, ◌≤◌, ◌≡◌, ◌⊎◌, ◌==◌, nat_lt, Bool, true, false, not, ◌&&◌, List, [], ◌∷◌, length, map, filter, get_or, sum, position, replicate, unwrap_or, option_map, Option, Some, None, refl, if◌then◌else◌}
-use Rattle.std.specs.List.{Contains, cons_option, filter_map, sum_by}
-use Rattle.std.proofs.Common.{arith, rules, lit<, sym, ap, subst, ◌∙◌, cond, inl, inr, lit≤}
+use Rattle.std.specs.Prelude.{ℕ, zero, suc, ◌+◌, ◌*◌, ◌<◌, ◌≤◌, ◌≡◌, ◌⊎◌, nat_lt, Bool, true, false, not, ◌&&◌, List, [], ◌∷◌, length, map, filter, get_or, sum, unwrap_or, option_map, Option, Some, None, refl}
+use Rattle.std.specs.List.{cons_option, filter_map, sum_by}
+use Rattle.std.proofs.Common.{arith, rules, sym, ap, ◌∙◌, cond, inl, inr, lit≤}
 use Rattle.std.proofs.lemmas.Bool.{ltb-false}
-use Rattle.std.proofs.lemmas.List.{length-replicate, get_or-replicate, length-map}
+use Rattle.std.proofs.lemmas.List.{length-map}
 use Rattle.std.proofs.lemmas.List.Sums.{sum_by-cons, sum-map}
-use Rattle.std.proofs.lemmas.Nat.{mul-lt}
 use denote.Enum.Bare.{same_true}
 use Rattle.cif_defs.specs.contracts.kinds.Param.{the_type}
 use Rattle.cif_defs.specs.Kinds.{is_same_param, role_of}
 use Rattle.cif_defs.specs.Table.{is_mask, is_table, kind_of, parameters_of}
-use Rattle.cif_defs.specs.RawModule.{digits_given, net_numbers, number_given, output_bits}
-use Rattle.cif_defs.specs.Words.{Word, bit, word, zeros}
-use Rattle.cif_defs.specs.Cells.{Cell, number_in, number_of, state_bits, state_bits_by, width}
-use Rattle.cif_defs.specs.Accepted.{cell_by, cell_of, netlist_of, numbers_of}
+use Rattle.cif_defs.specs.RawModule.{net_numbers, number_given}
+use Rattle.cif_defs.specs.Cells.{number_in, number_of, state_bits, state_bits_by}
+use Rattle.cif_defs.specs.Accepted.{cell_by, cell_of, netlist_of}
 use Rattle.cif_defs.specs.Netlist.{cell_at, no_cell}
 use Rattle.cif_defs.specs.declared.kinds.Kind.{Kind}
 use Rattle.cif_defs.specs.declared.kinds.Role.{Role}
 use Rattle.cif_defs.specs.declared.kinds.Role.TheVariants.{Combinational, PlainRegister, ResetRegister, MemoryBlock, CarriedOver}
 use Rattle.cif_defs.specs.declared.kinds.Param.{Param}
-use Rattle.cif_defs.specs.declared.kinds.Param.TheVariants.{Width, Size, Init}
+use Rattle.cif_defs.specs.declared.kinds.Param.TheVariants.{Width, Size}
 use Rattle.cif_defs.specs.declared.raw_module.RawCell.{RawCell}
 use Rattle.cif_defs.specs.declared.raw_module.Raw.{Raw}
-use Rattle.cif_checks.specs.Checks.{◌else_by◌, fault_if, IsAccepted, cells_fault, cell_fault, first_fault, memory_bits_fault, memory_limit, memory_size, memory_size_by, number_or_0}
+use Rattle.cif_checks.specs.Checks.{IsAccepted, cells_fault, cell_fault, first_fault, memory_bits_fault, memory_limit, memory_size, memory_size_by, number_or_0}
 use Rattle.cif_checks.specs.declared.fault.BuildFault.TheVariants.{TooManyBits}
 use Rattle.std.proofs.Math.Nat.{mul-le-mul_left, mul-le-mul_right}
-use Rattle.cif_checks.proofs.RawLaws.{number_small}
 use Rattle.cif_cells.proofs.FittedCells.{cell_fitted, cells_pass}
 use Rattle.cif_nets.proofs.Passed.{first_passes, next_passes, passed, test_passes}
 use Rattle.cif_kinds.proofs.RegisterCells.{register_width_fits}

@@ -1,25 +1,24 @@
 -- The addresses and the joined words of the read ports of a memory.
-use Rattle.std.specs.Prelude.{ℕ, zero, suc, ◌+◌, ◌-◌, ◌*◌, ◌/◌, ◌%◌, ◌<◌, ◌≤◌, ◌≡◌, nat_le, nat_lt, Bool, true, false, ◌&&◌, ◌||◌, List, [], ◌∷◌, ◌++◌, map, length, get_or, take, drop, refl}
+use Rattle.std.specs.Prelude.{ℕ, zero, suc, ◌+◌, ◌-◌, ◌*◌, ◌/◌, ◌%◌, ◌<◌, ◌≤◌, ◌≡◌, Bool, true, false, ◌&&◌, List, [], ◌∷◌, ◌++◌, map, length, get_or, take, drop, refl}
 use Rattle.std.proofs.Common.{arith, ap, sym, ◌∙◌, inl, inr}
 use Rattle.std.proofs.Math.Nat.{mul-le-mul_right}
-use Rattle.std.proofs.lemmas.Bool.Decides.{nat_tests}
 use Rattle.std.proofs.lemmas.Nat.{div-mul-add, mod-mul-add}
-use Rattle.std.proofs.lemmas.List.{get_or-drop, get_or-take, get_or_append_left, get_or-append_right, get_or_past, length-append, length-drop, length-map, length-take-le}
-use Rattle.cif_defs.specs.Words.{Word, bit, block, has_one, word, operand, zeros}
+use Rattle.std.proofs.lemmas.List.{get_or-drop, get_or-take, get_or_append_left, get_or-append_right, length-append, length-drop, length-map, length-take-le}
+use Rattle.cif_defs.specs.Words.{Word, bit, block, word, operand, zeros}
 use Rattle.cif_defs.specs.Kinds.{role_of}
 use Rattle.cif_defs.specs.Cells.{Cell, number_of, shape_of, width}
 use Rattle.cif_defs.specs.Memory.{MemoryShape, is_inside, read_address, read_taint, read_word, row_at}
 use Rattle.cif_defs.specs.Fitted.{IsFitted}
 use Rattle.cif_defs.specs.Run.{operand_words, src_bit, src_word}
 use Rattle.cif_defs.specs.TaintRun.{operand_taints, src_taint, taint_word}
-use Rattle.cif_defs.specs.declared.kinds.Param.TheVariants.{Abits, RdPorts, Size, Offset}
+use Rattle.cif_defs.specs.declared.kinds.Param.TheVariants.{Abits, RdPorts}
 use Rattle.cif_defs.specs.declared.kinds.Role.TheVariants.{MemoryBlock}
 use Rattle.cif_defs.specs.declared.nets.Src.{Src}
 use Rattle.cif_defs.specs.declared.nets.Src.TheVariants.{Zero}
 use Rattle.cif_defs.proofs.Levels.{operand-words_under}
 use Rattle.cif_defs.proofs.TaintSettles.{operand-taints_under}
 use Rattle.cif_defs.proofs.WordLaws.{bit-word, le_or_lt, length-word, same_words}
-use Rattle.cif_kinds.specs.StateCells.{HasMemoryNumbers, HasMemoryPorts}
+use Rattle.cif_kinds.specs.StateCells.{HasMemoryPorts}
 use Rattle.cif_cells.proofs.MemoryCells.{memory_ports}
 use Rattle.cif_cycle.specs.CellWords.{read_taints, read_words}
 use Rattle.cif_cycle.proofs.SourceWords.{length-source, length-taint, words_wide}

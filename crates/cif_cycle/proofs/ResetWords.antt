@@ -1,8 +1,8 @@
 -- The reset of a register with asynchronous reset.
-use Rattle.std.specs.Prelude.{ℕ, ◌+◌, ◌<◌, ◌≤◌, ◌≡◌, Bool, false, List, [], map, length, get_or}
+use Rattle.std.specs.Prelude.{ℕ, ◌<◌, ◌≤◌, ◌≡◌, Bool, [], map, length, get_or}
 use Rattle.std.proofs.Common.{arith, ap, sym, ◌∙◌}
 use Rattle.std.proofs.lemmas.List.{length-map}
-use Rattle.cif_defs.specs.Words.{Word, bit, word, operand}
+use Rattle.cif_defs.specs.Words.{Word, operand}
 use Rattle.cif_defs.specs.Kinds.{role_of}
 use Rattle.cif_defs.specs.Table.{operands_of}
 use Rattle.cif_defs.specs.Cells.{Cell, reset_operand, width}
@@ -14,7 +14,6 @@ use Rattle.cif_defs.specs.declared.kinds.Kind.TheVariants.{Adff, Adffe}
 use Rattle.cif_defs.specs.declared.kinds.Role.TheVariants.{ResetRegister}
 use Rattle.cif_defs.proofs.Levels.{operand-words_under}
 use Rattle.cif_defs.proofs.TaintSettles.{operand-taints_under}
-use Rattle.cif_defs.proofs.WordLaws.{bit-word, length-word, same_words}
 use Rattle.cif_defs.specs.Kinds.{is_register}
 use Rattle.cif_kinds.specs.StateCells.{HasRegisterPorts}
 use Rattle.cif_kinds.proofs.RegisterCells.{register_ports}

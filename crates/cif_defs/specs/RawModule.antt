@@ -1,5 +1,5 @@
 -- What a raw module says of its cells: parameters in their two spellings, and connections.
-use Rattle.std.specs.Prelude.{ℕ, ◌^◌, nat_lt, Bool, true, false, not, ◌&&◌, ◌||◌, ◌==◌, List, [], ◌∷◌, ◌++◌, length, bytes_eq, Option, Some, None, option_and_then, option_map, unwrap_or, ℤ, pos, negsuc, if◌then◌else◌}
+use Rattle.std.specs.Prelude.{ℕ, ◌^◌, nat_lt, Bool, true, false, not, ◌&&◌, ◌==◌, List, [], ◌∷◌, ◌++◌, length, bytes_eq, Option, Some, None, option_and_then, option_map, unwrap_or, ℤ, pos, negsuc, if◌then◌else◌}
 use Rattle.std.specs.List.{list_all, flat_map}
 use Rattle.cif_defs.specs.Words.{Word, number, word_of}
 use Rattle.cif_defs.specs.WordText.{word_of_text, is_no_digit}

@@ -19,7 +19,7 @@ use Rattle.cif_defs.specs.declared.kinds.Param.TheVariants.{Width, Size, Offset,
 use Rattle.cif_defs.specs.declared.kinds.PortRow.{PortRow}
 use Rattle.cif_defs.specs.declared.raw_module.RawCell.{RawCell}
 use Rattle.cif_defs.specs.declared.raw_module.Raw.{Raw}
-use Rattle.cif_checks.specs.Checks.{◌else_by◌, fault_if, first_fault, cell_fault, cell_fault_by, known_cell_fault, counts_fault, ports_fault, cells_fault, drivers_fault, clocks_fault, reads_fault, inits_fault, memory_bits_fault, build_fault, memory_form, has_bad_form, number_or_0, IsAccepted}
+use Rattle.cif_checks.specs.Checks.{◌else_by◌, fault_if, first_fault, cell_fault, cell_fault_by, counts_fault, ports_fault, cells_fault, drivers_fault, clocks_fault, reads_fault, inits_fault, memory_bits_fault, build_fault, memory_form, has_bad_form, number_or_0, IsAccepted}
 use Rattle.cif_checks.specs.declared.fault.BuildFault.{BuildFault}
 use Rattle.cif_level.proofs.Driving.{HasOneOutput}
 

@@ -1,8 +1,7 @@
 -- Uses of the clock, cell by cell.
-use Rattle.std.specs.Prelude.{ℕ, ◌+◌, ◌<◌, ◌≤◌, ◌≡◌, ◌==◌, Bool, true, false, ◌||◌, List, [], ◌∷◌, ◌++◌, length, get_or, drop, map, Option, Some, None, refl}
-use Rattle.std.specs.List.{flat_map, list_any}
+use Rattle.std.specs.Prelude.{ℕ, ◌+◌, ◌<◌, ◌≤◌, ◌≡◌, ◌==◌, true, false, ◌||◌, List, [], ◌∷◌, ◌++◌, length, get_or, drop, Option, Some, None, refl}
+use Rattle.std.specs.List.{flat_map}
 use Rattle.std.proofs.Common.{arith, sym, ap, ◌∙◌, lit≤}
-use Rattle.std.proofs.lemmas.Bool.{or_left}
 use Rattle.std.proofs.lemmas.List.{append-nil, at_drop_more, length-map}
 use Rattle.std.proofs.lemmas.List.Folds.{list_any-append}
 use Rattle.cif_defs.specs.Table.{clocks_of, kind_of}
@@ -10,17 +9,14 @@ use Rattle.cif_defs.specs.RawModule.{clock_bits, nets_in, port_bits}
 use Rattle.cif_checks.specs.Known.{bits_at, joined, rows_by}
 use Rattle.cif_checks.proofs.KnownCells.{joined_is}
 use Rattle.cif_defs.specs.declared.kinds.Kind.{Kind}
-use Rattle.cif_defs.specs.declared.kinds.Kind.TheVariants.{Dff, Dffe, Sdff, Sdffe, Sdffce, Adff, Adffe, Mem}
-use Rattle.cif_defs.specs.declared.kinds.PortRow.{PortRow}
+use Rattle.cif_defs.specs.declared.kinds.Kind.TheVariants.{Mem}
 use Rattle.cif_defs.specs.declared.raw_module.RawBit.{RawBit}
 use Rattle.cif_defs.specs.declared.raw_module.RawCell.{RawCell}
 use Rattle.cif_defs.specs.declared.raw_module.Raw.{Raw}
-use Rattle.cif_checks.specs.Checks.{◌else_by◌, ClockUse, clock_uses, clocks_fault, data_fault, first_fault, has_number, IsFirst, reads_number, uses_fault}
+use Rattle.cif_checks.specs.Checks.{◌else_by◌, ClockUse, clock_uses, clocks_fault, data_fault, first_fault, has_number, reads_number, uses_fault}
 use Rattle.cif_nets.specs.Clocks.{edge_fault, edge_faults, first_edge, uses_of}
 use Rattle.cif_nets.specs.declared.clock.ClockEdge.{ClockEdge}
-use Rattle.cif_checks.specs.declared.fault.BuildFault.{BuildFault}
 use Rattle.cif_nets.proofs.Places.{nets_in-append}
-use Rattle.cif_checks.proofs.FirstFaults.{IsFirst-same}
 
 -- ---- the clock ports of a cell
 

@@ -1,8 +1,6 @@
 -- What drives net numbers, recorded one bit after another.
-use Rattle.std.specs.Prelude.{ℕ, zero, suc, ◌+◌, ◌/◌, ◌%◌, ◌⊎◌, ◌<◌, ◌≤◌, ◌≡◌, ◌==◌, Bool, true, false, List, [], ◌∷◌, ◌++◌, length, get_or, map, filter, drop, set, eqb, position, Option, Some, None, refl, if◌then◌else◌}
-use Rattle.std.specs.List.{flat_map}
-use Rattle.std.specs.List.Sorted.{IsStrictlyIncreasing}
-use Rattle.std.proofs.Common.{arith, sym, ap, ◌∙◌, cond, inl, inr}
+use Rattle.std.specs.Prelude.{ℕ, suc, ◌+◌, ◌/◌, ◌%◌, ◌⊎◌, ◌<◌, ◌≤◌, ◌≡◌, Bool, true, false, List, [], ◌∷◌, ◌++◌, length, get_or, map, filter, drop, Some, None, refl}
+use Rattle.std.proofs.Common.{arith, sym, ap, ◌∙◌, inl, inr}
 use Rattle.std.proofs.lemmas.Bool.{cond-true, cond-false}
 use Rattle.std.proofs.lemmas.List.{at_drop_more, at_drop_all}
 use Rattle.cif_defs.specs.Accepted.{driven_by_inputs, driven_by_kind, driven_by_outputs, driven_by_role, driven_from, is_input}
@@ -10,7 +8,6 @@ use Rattle.cif_defs.specs.RawModule.{output_bits, port_bits}
 use Rattle.cif_defs.specs.declared.kinds.Role.{Role}
 use Rattle.cif_defs.specs.declared.kinds.Role.TheVariants.{Combinational, PlainRegister, ResetRegister, MemoryBlock, CarriedOver}
 use Rattle.cif_defs.specs.declared.kinds.Param.TheVariants.{Width}
-use Rattle.cif_defs.specs.declared.kinds.PortRow.{PortRow}
 use Rattle.cif_defs.specs.declared.nets.Driver.TheVariants.{Input, Register, Read}
 use Rattle.cif_defs.specs.declared.raw_module.RawPort.{RawPort}
 use Rattle.cif_checks.specs.Checks.{number_or_0}
@@ -21,8 +18,8 @@ use Rattle.cif_defs.specs.declared.raw_module.RawCell.{RawCell}
 use Rattle.cif_defs.specs.declared.nets.Driver.{Driver}
 use Rattle.cif_defs.specs.declared.raw_module.RawBit.{RawBit}
 use Rattle.cif_defs.specs.declared.raw_module.RawBit.TheVariants.{Net, Zero, One as OneBit, X, Z}
-use Rattle.cif_nets.specs.Told.{told, told_all}
-use Rattle.cif_nets.proofs.ToldLaws.{found_told, missed_told, told_all-append, told_all-nil}
+use Rattle.cif_nets.specs.Told.{told_all}
+use Rattle.cif_nets.proofs.ToldLaws.{told_all-append, told_all-nil}
 
 -- ---- bits in a row
 

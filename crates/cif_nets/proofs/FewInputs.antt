@@ -1,7 +1,7 @@
 -- A module whose ports pass has no more input ports than net numbers.
-use Rattle.std.specs.Prelude.{ℕ, zero, suc, ◌+◌, ◌<◌, ◌≤◌, ◌≡◌, ◌≢◌, ◌⊎◌, ◌==◌, nat_lt, Bool, true, false, not, ◌||◌, List, [], ◌∷◌, ◌++◌, length, get_or, filter, eqb, Option, Some, None, refl, if◌then◌else◌}
+use Rattle.std.specs.Prelude.{ℕ, zero, suc, ◌+◌, ◌<◌, ◌≤◌, ◌≡◌, ◌≢◌, ◌⊎◌, ◌==◌, nat_lt, Bool, true, false, not, ◌||◌, List, [], ◌∷◌, ◌++◌, length, get_or, filter, eqb, None, refl, if◌then◌else◌}
 use Rattle.std.specs.List.{All, flat_map, list_any}
-use Rattle.std.proofs.Common.{arith, sym, ap, ◌∙◌, cond, inl, inr, ltb}
+use Rattle.std.proofs.Common.{arith, sym, ap, cond, inl, inr, ltb}
 use Rattle.std.proofs.lemmas.Bool.{cond_both, eqb-true, eqb-false, eq-eqb, ltb-false, or_right}
 use Rattle.cif_defs.specs.RawModule.{is_net, nets_in, net_numbers, numbers_held, operand_bits, output_bits, clock_bits, put_in, rising}
 use Rattle.cif_defs.specs.Accepted.{is_input}
@@ -11,7 +11,6 @@ use Rattle.cif_defs.specs.declared.raw_module.RawPort.{RawPort}
 use Rattle.cif_defs.specs.declared.raw_module.RawCell.{RawCell}
 use Rattle.cif_defs.specs.declared.raw_module.Raw.{Raw}
 use Rattle.cif_checks.specs.Checks.{◌else_by◌, fault_if, first_fault_from, has_number, input_clash, input_fault, constant_input, is_inout, port_fault, port_limit, ports_fault, ports_fault_from, seen_after}
-use Rattle.cif_checks.specs.declared.fault.BuildFault.{BuildFault}
 use Rattle.cif_checks.specs.declared.fault.BuildFault.TheVariants.{ConstantOutput, InoutPort, PortClash, WidthLimit, ZeroWidth}
 use Rattle.cif_checks.specs.declared.fault.Spot.TheVariants.{Port}
 use Rattle.cif_nets.proofs.Places.{Has, Has-left, Has-right, Has-append}

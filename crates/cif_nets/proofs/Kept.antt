@@ -1,5 +1,5 @@
 -- Registers and memories have one output.
-use Rattle.std.specs.Prelude.{ℕ, ◌<◌, ◌≤◌, ◌^◌, ◌⊎◌, ◌≡◌, true, List, [], ◌∷◌, length, map, get_or, None, Some, refl}
+use Rattle.std.specs.Prelude.{◌<◌, ◌≤◌, ◌^◌, ◌⊎◌, ◌≡◌, true, List, [], ◌∷◌, length, map, get_or, None, Some, refl}
 use Rattle.std.specs.List.{flat_map}
 use Rattle.std.proofs.Common.{arith, sym, ap, inl, inr, ◌∙◌}
 use Rattle.std.proofs.lemmas.List.{append-nil}

@@ -5,7 +5,7 @@ use Rattle.std.specs.List.Sorted.{IsStrictlyIncreasing}
 use Rattle.std.proofs.lemmas.List.{length-map, length-replicate, take_at}
 use Rattle.cif_checks.specs.Checks.{◌else_by◌, fault_if, first_fault, counts_fault, ports_fault, cells_fault, drivers_fault, driven_numbers, is_twice}
 use Rattle.cif_checks.specs.declared.fault.BuildFault.TheVariants.{MultiDriven}
-use Rattle.std.proofs.Common.{arith, sym, ap, subst, ◌∙◌, cond, inl, inr, ltb, add-one}
+use Rattle.std.proofs.Common.{arith, sym, ap, subst, ◌∙◌, cond, inl, inr, add-one}
 use Rattle.std.proofs.lemmas.Bool.{cond-true, cond-false, cond_both, lt-ltb, ne_eqb}
 use Rattle.std.proofs.lemmas.Bool.Decides.{nat_tests}
 use Rattle.cif_defs.specs.Accepted.{driven, driver_in, driven_by_inputs, driven_by_cells, driven_by_kind, driven_by_role, driven_from, is_input}
@@ -28,7 +28,7 @@ use Rattle.cif_nets.specs.declared.clock.ClockEdge.{ClockEdge}
 use Rattle.cif_nets.specs.Nets.{HoldsNets, drive_at, driver_or_clock, is_driven, is_several, several_fault}
 use Rattle.cif_nets.specs.declared.drives.DrivenBy.{DrivenBy}
 use Rattle.cif_nets.specs.declared.drives.DrivenBy.TheVariants.{Nothing, One, Several}
-use Rattle.cif_nets.proofs.Places.{At, Has, At-has, Has-at, Has-flat_map, Has-left, Has-right, Has-append, Has-nets, Has-unfilter, At-map}
+use Rattle.cif_nets.proofs.Places.{Has, At-has, Has-at, Has-flat_map, Has-left, Has-right, Has-append, Has-nets, Has-unfilter, At-map}
 use Rattle.cif_nets.proofs.Rising.{Has-rising, IsRising}
 use Rattle.cif_nets.proofs.Driven.{Drive, times, word_width, driven_from_at, inputs_at, cells_at, outputs_at}
 use Rattle.cif_nets.proofs.Wired.{nets_of_rows, numbers_rise}

@@ -1,5 +1,5 @@
 -- Net numbers in code: gathered in a list, sorted, and found by their places.
-use Rattle.std.specs.Prelude.{ℕ, zero, suc, ◌+◌, ◌<◌, ◌≤◌, ◌≡◌, ◌==◌, List, [], ◌∷◌, ◌++◌, length, get_or, drop, eqb, position, Option, Some, None, Result, Ok, Err, refl}
+use Rattle.std.specs.Prelude.{ℕ, zero, suc, ◌+◌, ◌<◌, ◌≤◌, ◌≡◌, ◌==◌, List, [], ◌∷◌, ◌++◌, length, get_or, drop, eqb, position, Some, None, Result, Ok, Err, refl}
 use Rattle.std.specs.List.{Contains, dedup, flat_map, position_or_len, prefix_len}
 use Rattle.std.specs.List.Retain.{IsFiltered, DiffersFromLast}
 use Rattle.std.specs.List.Sorted.{IsBinarySearchResult, IsPermutation, IsSorted, IsStrictlyIncreasing}
@@ -19,7 +19,7 @@ use Rattle.cif_defs.specs.declared.raw_module.RawPort.{RawPort}
 use Rattle.cif_defs.specs.declared.raw_module.RawBit.{RawBit}
 use Rattle.cif_defs.specs.declared.raw_module.RawCell.{RawCell}
 use Rattle.cif_nets.proofs.Places.{At, At-below, At-get, At-has, Has, nets_in-append}
-use Rattle.cif_nets.proofs.Rising.{IsBelowAll, IsBelowAll-below, IsRising, IsRising-rising, Has-rising, Has-from_rising, position_at, same_rising}
+use Rattle.cif_nets.proofs.Rising.{IsBelowAll-below, IsRising, IsRising-rising, Has-rising, Has-from_rising, position_at, same_rising}
 
 -- ---- gathered
 

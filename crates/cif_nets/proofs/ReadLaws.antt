@@ -15,7 +15,6 @@ use Rattle.cif_nets.specs.Reads.{bad_bit, bad_fault, first_bad, or_next}
 use Rattle.cif_nets.specs.declared.reads.BadBit.{BadBit}
 use Rattle.cif_nets.specs.declared.reads.BadBit.TheVariants.{NoDriver}
 use Rattle.cif_checks.specs.declared.fault.Spot.{Spot}
-use Rattle.cif_checks.specs.declared.fault.BuildFault.{BuildFault}
 use Rattle.cif_checks.specs.declared.fault.BuildFault.TheVariants.{Undriven}
 use Rattle.cif_nets.proofs.NetLaws.{driven_has_driver}
 

@@ -3,21 +3,18 @@ use Rattle.std.specs.Prelude.{ℕ, zero, suc, ◌+◌, ◌*◌, ◌/◌, ◌%◌
 use Rattle.std.specs.List.{cons_option, flat_map}
 use Rattle.std.proofs.Common.{arith, sym, ap, ◌∙◌, cond, inl, inr}
 use Rattle.std.proofs.lemmas.Nat.{div-mul-add, mod-mul-add, div-add-mod'}
-use Rattle.std.proofs.lemmas.List.{append-nil, get_or_past, length-map}
+use Rattle.std.proofs.lemmas.List.{get_or_past, length-map}
 use Rattle.cif_defs.specs.Kinds.{role_of}
 use Rattle.cif_defs.specs.Table.{kind_of, outputs_of, parameters_of, row}
-use Rattle.cif_defs.specs.RawModule.{number_given, port_bits, output_bits, operand_bits, clock_bits, bits_by, nets_in, numbers_held, net_numbers}
+use Rattle.cif_defs.specs.RawModule.{number_given, port_bits, output_bits, operand_bits, clock_bits, nets_in, numbers_held, net_numbers}
 use Rattle.cif_defs.specs.Cells.{Cell, width, number_in}
 use Rattle.cif_defs.specs.Netlist.{IsWired, cell_at, driver_of, no_cell, no_wire, output_at, role_at}
 use Rattle.cif_defs.specs.Accepted.{cell_by, cell_of, driven, driver_in, driver_of_number, is_clock, is_input, netlist_of, numbers_of, place_of, source, target, wire_of}
 use Rattle.cif_defs.specs.declared.kinds.Kind.{Kind}
-use Rattle.cif_defs.specs.declared.kinds.Kind.TheVariants.{Dff, Dffe, Sdff, Sdffe, Sdffce, Adff, Adffe, Mem}
-use Rattle.cif_defs.specs.declared.kinds.Role.{Role}
-use Rattle.cif_defs.specs.declared.kinds.Role.TheVariants.{Combinational, PlainRegister, ResetRegister, MemoryBlock, CarriedOver}
+use Rattle.cif_defs.specs.declared.kinds.Kind.TheVariants.{Mem}
+use Rattle.cif_defs.specs.declared.kinds.Role.TheVariants.{Combinational, PlainRegister, ResetRegister, MemoryBlock}
 use Rattle.cif_defs.specs.declared.kinds.Param.{Param}
 use Rattle.cif_defs.specs.declared.kinds.Param.TheVariants.{Width, Size, Offset, Abits, RdPorts, WrPorts}
-use Rattle.cif_defs.specs.declared.kinds.CellPort.TheVariants.{Q, RdData}
-use Rattle.cif_defs.specs.declared.kinds.PortWidth.TheVariants.{Of, Product}
 use Rattle.cif_defs.specs.declared.kinds.PortRow.{PortRow}
 use Rattle.cif_defs.specs.declared.nets.Driver.{Driver}
 use Rattle.cif_defs.specs.declared.nets.Driver.TheVariants.{Input, Output, Register, Read, Clock}

@@ -1,5 +1,5 @@
 -- Each fitted combinational cell has formulas of its taint.
-use Rattle.std.specs.Prelude.{ℕ, ◌≡◌, Bool, true, false, List, [], ◌∷◌, refl}
+use Rattle.std.specs.Prelude.{◌≡◌, Bool, true, false, List, [], ◌∷◌, refl}
 use Rattle.cif_defs.specs.Kinds.{role_of}
 use Rattle.cif_defs.specs.Cells.{Cell}
 use Rattle.cif_defs.specs.Fitted.{IsFitted}

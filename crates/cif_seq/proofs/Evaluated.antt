@@ -1,15 +1,14 @@
 -- What the net bits hold once the words of a cell are written to them: what its drivers give.
-use Rattle.std.specs.Prelude.{ℕ, zero, suc, ◌+◌, ◌*◌, ◌/◌, ◌%◌, ◌<◌, ◌≤◌, ◌≡◌, ◌≢◌, ◌==◌, ◌⊎◌, Bool, true, false, List, [], ◌∷◌, length, map, get_or, Option, Some, None, refl}
+use Rattle.std.specs.Prelude.{ℕ, zero, suc, ◌+◌, ◌*◌, ◌/◌, ◌%◌, ◌<◌, ◌≤◌, ◌≡◌, ◌==◌, Bool, true, false, List, [], ◌∷◌, length, map, get_or, Option, Some, None, refl}
 use Rattle.std.proofs.Common.{arith, ap, sym, ◌∙◌, cond, inl, inr, subst}
-use Rattle.std.proofs.lemmas.Bool.{eqb-true, eqb-false}
+use Rattle.std.proofs.lemmas.Bool.{eqb-true}
 use Rattle.std.proofs.lemmas.Bool.Decides.{nat_tests}
 use Rattle.std.proofs.lemmas.List.{get_or_past}
 use Rattle.std.proofs.lemmas.Nat.{div-mul-add, mod-mul-add}
 use Rattle.cif_defs.specs.Words.{Word, bit, word, operand}
-use Rattle.cif_defs.specs.Cells.{Cell, meaning, number_of, reset_operand, shape_of, shown_word, width}
+use Rattle.cif_defs.specs.Cells.{meaning, number_of, reset_operand, shape_of, shown_word, width}
 use Rattle.cif_defs.specs.Memory.{read_address, read_taint, read_word}
-use Rattle.cif_defs.specs.Completions.{can_differ}
-use Rattle.cif_defs.specs.Taint.{output_taint, shown_bit, shown_taint}
+use Rattle.cif_defs.specs.Taint.{output_taint, shown_taint}
 use Rattle.cif_defs.specs.Netlist.{IsWired, Netlist, cell_at, driver_of, output_at, role_at}
 use Rattle.cif_defs.specs.Run.{driver_value, operand_words, register_bit}
 use Rattle.cif_defs.specs.TaintRun.{TaintState, driver_taint, operand_taints, register_taint}
@@ -20,7 +19,6 @@ use Rattle.cif_defs.specs.declared.kinds.Role.{Role}
 use Rattle.cif_defs.specs.declared.kinds.Role.TheVariants.{Combinational, PlainRegister, ResetRegister, MemoryBlock}
 use Rattle.cif_defs.proofs.WordLaws.{le_or_lt, bit-word}
 use Rattle.cif_defs.specs.Evaluation.{evaluate_one, is_of_cell}
-use Rattle.cif_term.specs.CellTaints.{output_width}
 use Rattle.cif_cycle.specs.CellWords.{read_taints, read_words}
 use Rattle.cif_shown.specs.Evaluates.{EvaluatesTaints, EvaluatesValues, Marks}
 use Rattle.cif_seq.specs.Writes.{cleared, put_word, put_words}

@@ -1,14 +1,13 @@
 -- What a cell is evaluated to, from what the calls of an evaluation say.
-use Rattle.std.specs.Prelude.{ℕ, ◌+◌, ◌*◌, ◌<◌, ◌≤◌, ◌≡◌, Bool, false, List, [], length, map, get_or, refl}
+use Rattle.std.specs.Prelude.{ℕ, ◌<◌, ◌≤◌, ◌≡◌, Bool, false, List, [], length, map, get_or}
 use Rattle.std.proofs.Common.{arith, ap, sym, ◌∙◌, subst, inl, inr}
 use Rattle.std.proofs.lemmas.List.{get_or_past, length-map}
 use Rattle.std.proofs.lemmas.List.FromFn.{get_or-map-range_with_len}
 use Rattle.cif_defs.specs.Words.{Word, bit, operand}
-use Rattle.cif_defs.specs.Cells.{Cell, meaning, number_of, reset_operand, shown_word, width}
+use Rattle.cif_defs.specs.Cells.{Cell, meaning, number_of, reset_operand, shown_word}
 use Rattle.cif_defs.specs.Fitted.{IsFitted, row_width}
 use Rattle.cif_defs.specs.Table.{outputs_of}
 use Rattle.cif_defs.proofs.WordLaws.{bit-word, le_or_lt}
-use Rattle.cif_defs.specs.Kinds.{role_of}
 use Rattle.cif_defs.specs.Taint.{output_taint, shown_taint}
 use Rattle.cif_defs.specs.Netlist.{IsWired, Netlist, cell_at, role_at}
 use Rattle.cif_defs.specs.Run.{operand_words}

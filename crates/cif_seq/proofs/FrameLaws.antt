@@ -1,6 +1,6 @@
 -- From the settled bits of a cycle to its frame, and from a frame to the next.
-use Rattle.std.specs.Prelude.{ℕ, ◌+◌, ◌<◌, ◌≡◌, Bool, true, false, ◌||◌, List, [], length, get_or, map}
-use Rattle.std.proofs.Common.{arith, ap, sym, ◌∙◌, ◌⊎◌, inl, inr, refl, subst, add-one}
+use Rattle.std.specs.Prelude.{ℕ, ◌+◌, ◌<◌, ◌≡◌, Bool, false, List, length, get_or}
+use Rattle.std.proofs.Common.{ap, sym, ◌∙◌, inl, inr, subst, add-one}
 use Rattle.std.proofs.lemmas.List.{get_or_past}
 use Rattle.cif_defs.specs.Accepted.{netlist_of}
 use Rattle.cif_defs.specs.Agreement.{AgreesUpTo}
@@ -9,15 +9,14 @@ use Rattle.cif_defs.specs.Words.{Word, bit}
 use Rattle.cif_defs.specs.Netlist.{IsWired, Netlist, driver_of, no_wire}
 use Rattle.cif_defs.specs.Stimulus.{Stimulus, is_released}
 use Rattle.cif_defs.specs.Run.{input_value, next_stored, state, state, value, value_in}
-use Rattle.cif_defs.specs.TaintRun.{IsFrame, TaintState, input_taint, next_taints, settled_taint, state_taint, state_value, taint, taint_in, taint_state}
+use Rattle.cif_defs.specs.TaintRun.{IsFrame, TaintState, input_taint, next_taints, settled_taint, state_taint, state_value, taint, taint_state}
 use Rattle.cif_defs.specs.declared.nets.Driver.TheVariants.{Input}
-use Rattle.cif_defs.specs.declared.nets.Src.{Src}
 use Rattle.cif_defs.specs.declared.nets.Src.TheVariants.{Bit, Zero}
 use Rattle.cif_defs.specs.declared.nets.Wire.{Wire}
 use Rattle.cif_defs.specs.declared.raw_module.Raw.{Raw}
 use Rattle.cif_defs.proofs.Noninterference.{noninterference, state_noninterference}
 use Rattle.cif_defs.proofs.WordLaws.{le_or_lt}
-use Rattle.cif_inputs.specs.Cursor.{IsAt, IsMapOf, cycle_of}
+use Rattle.cif_inputs.specs.Cursor.{IsAt, cycle_of}
 use Rattle.cif_inputs.specs.declared.inputs.InputMap.{InputMap}
 use Rattle.cif_inputs.specs.declared.inputs.Inputs.{Inputs}
 use Rattle.cif_seq.specs.Cases.{CaseOf, net_of}

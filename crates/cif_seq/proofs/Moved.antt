@@ -1,20 +1,18 @@
 -- Which cells store something else after a cycle, and which rest.
-use Rattle.std.specs.Prelude.{ℕ, ◌+◌, ◌<◌, ◌≤◌, ◌≡◌, ◌≢◌, ◌⊎◌, Bool, true, false, List, [], ◌∷◌, ◌++◌, length, get_or, replicate, refl}
+use Rattle.std.specs.Prelude.{ℕ, ◌+◌, ◌<◌, ◌≤◌, ◌≡◌, ◌≢◌, ◌⊎◌, Bool, true, false, List, [], ◌∷◌, ◌++◌, length, get_or, replicate}
 use Rattle.std.proofs.Common.{arith, ap, sym, ◌∙◌, inl, inr, subst}
-use Rattle.std.proofs.lemmas.List.{get_or_append_left, get_or_past, get_or-replicate, length-append, length-replicate}
+use Rattle.std.proofs.lemmas.List.{get_or_append_left, get_or_past, get_or-replicate, length-append}
 use Rattle.std.proofs.Math.Seq.{get_or-append_seam}
 use Rattle.cif_defs.specs.Words.{Word, bit}
 use Rattle.cif_defs.specs.Cells.{Cell}
 use Rattle.cif_defs.specs.Kinds.{role_of}
 use Rattle.cif_defs.specs.Netlist.{Netlist, cell_at, no_cell, role_at}
-use Rattle.cif_defs.specs.Run.{next_stored, stored_by}
-use Rattle.cif_defs.specs.TaintRun.{flag_by, next_taints, taint_stored_by}
+use Rattle.cif_defs.specs.Run.{stored_by}
+use Rattle.cif_defs.specs.TaintRun.{flag_by, taint_stored_by}
 use Rattle.cif_defs.specs.declared.kinds.Role.{Role}
 use Rattle.cif_defs.specs.declared.kinds.Role.TheVariants.{CarriedOver}
 use Rattle.cif_defs.proofs.WordLaws.{le_or_lt}
-use Rattle.cif_readers.specs.Reads.{Notes}
 use Rattle.cif_shown.specs.Shown.{AreKept, AreResting, Given, KeepsAt, Rests, WillRest}
-use Rattle.cif_shown.proofs.Resting.{Follows, resting_after}
 use Rattle.cif_seq.specs.Stored.{IsStored, given_words}
 
 -- ---- cell by cell

@@ -1,5 +1,5 @@
 -- A frame begins with what the frame before it held, or with nothing.
-use Rattle.std.specs.Prelude.{ℕ, ◌<◌, ◌≤◌, ◌≡◌, Bool, true, false, List, [], length, map, get_or, replicate, refl}
+use Rattle.std.specs.Prelude.{ℕ, ◌≤◌, ◌≡◌, Bool, true, false, List, [], length, map, get_or, replicate, refl}
 use Rattle.std.specs.List.{range_with_len}
 use Rattle.std.proofs.Common.{arith, ap, sym, ◌∙◌, inl, inr, subst}
 use Rattle.std.proofs.lemmas.List.{get_or_past, get_or-replicate, length-replicate}
@@ -11,18 +11,18 @@ use Rattle.cif_defs.specs.Loop.{IsLevelled}
 use Rattle.cif_defs.specs.Words.{Word, bit}
 use Rattle.cif_defs.specs.Netlist.{IsWired, Netlist, cell_at, no_cell, role_at}
 use Rattle.cif_defs.specs.Run.{next_stored, stored_by}
-use Rattle.cif_defs.specs.TaintRun.{TaintState, flag_by, next_taints, taint_stored_by}
+use Rattle.cif_defs.specs.TaintRun.{flag_by, next_taints, taint_stored_by}
 use Rattle.cif_defs.specs.declared.kinds.Role.{Role}
 use Rattle.cif_defs.specs.declared.raw_module.Raw.{Raw}
 use Rattle.cif_defs.proofs.WordLaws.{le_or_lt}
 use Rattle.cif_cycle.specs.declared.stored.StoredWords.{StoredWords}
 use Rattle.cif_inputs.specs.declared.inputs.Inputs.{Inputs}
 use Rattle.cif_readers.specs.Reads.{Notes}
-use Rattle.cif_shown.specs.Shown.{AreKept, AreResting, Given, KeepsAt, MayBegin, Shows, WillRest}
+use Rattle.cif_shown.specs.Shown.{AreKept, MayBegin, Shows, WillRest}
 use Rattle.cif_shown.proofs.Begun.{begins_again, begins_clear}
 use Rattle.cif_shown.proofs.Resting.{Follows, resting_after}
 use Rattle.cif_seq.specs.Cases.{CaseOf, net_of}
-use Rattle.cif_seq.specs.GivenAt.{given_at, given_by, given_with}
+use Rattle.cif_seq.specs.GivenAt.{given_at, given_by}
 use Rattle.cif_seq.specs.Stored.{IsStored, given_of, given_words}
 use Rattle.cif_seq.proofs.Moved.{all_due}
 

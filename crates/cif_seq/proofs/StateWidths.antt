@@ -1,7 +1,7 @@
 -- What the cells store in a cycle is one word and one taint word for each, as long as its state, and one flag.
-use Rattle.std.specs.Prelude.{ℕ, zero, suc, ◌<◌, ◌≡◌, Bool, false, List, [], length, map, get_or, refl}
+use Rattle.std.specs.Prelude.{ℕ, zero, suc, ◌<◌, ◌≡◌, Bool, List, [], length, map, get_or, refl}
 use Rattle.std.specs.List.{range_with_len}
-use Rattle.std.proofs.Common.{arith, ap, sym, ◌∙◌}
+use Rattle.std.proofs.Common.{arith, ap, ◌∙◌}
 use Rattle.std.proofs.lemmas.List.FromFn.{get_or-map-range_with_len, length-map-range_with_len}
 use Rattle.cif_defs.specs.Words.{Word}
 use Rattle.cif_defs.specs.Cells.{Cell, next_by, shape_of, state_bits, state_bits_by, width}

@@ -1,15 +1,9 @@
 -- Cases and frames, as contracts see them.
-use Rattle.std.specs.Prelude.{ℕ, ◌≡◌, Bool, List, length}
-use Rattle.cif_defs.specs.Words.{Word}
+use Rattle.std.specs.Prelude.{ℕ, List}
 use Rattle.cif_defs.specs.Accepted.{netlist_of}
 use Rattle.cif_defs.specs.Netlist.{Netlist}
 use Rattle.cif_defs.specs.Stimulus.{Stimulus}
-use Rattle.cif_defs.specs.TaintRun.{IsFrame}
 use Rattle.cif_defs.specs.declared.raw_module.Raw.{Raw}
-use Rattle.cif_inputs.specs.declared.inputs.Inputs.{Inputs}
-use Rattle.cif_seq.specs.Inputs.{StandsAt}
-use Rattle.cif_seq.specs.Stored.{given_words}
-use Rattle.cif_shown.specs.Shown.{AreResting}
 
 -- an accepted module, a levelled order of its cells, and a stimulus
 pub record CaseOf : Type 0 where

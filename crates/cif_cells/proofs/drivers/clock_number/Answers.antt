@@ -1,7 +1,4 @@
-use Rattle.std.proofs.Common.{refl, sym, ap, ◌∙◌, Some, None}
-use Rattle.std.specs.List.{flat_map}
-use Rattle.cif_defs.specs.declared.raw_module.RawCell.{RawCell}
-use Rattle.cif_nets.specs.Clocks.{first_edge, uses_of}
+use Rattle.std.proofs.Common.{refl, sym, ◌∙◌}
 use Rattle.cif_cells.proofs.BuildLaws.{clock_found, no_clock_found}
 use Rattle.cif_cells.proofs.drivers.clock_number.Goals as goal
 

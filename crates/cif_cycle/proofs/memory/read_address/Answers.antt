@@ -1,5 +1,4 @@
 -- The part of a port in the joined addresses.
-use Rattle.std.proofs.Common.{◌∙◌, ◌≡◌, ap, arith, length}
 use Rattle.cif_defs.specs.Words.{bit}
 use Rattle.cif_cycle.proofs.MemoryReads.{address_taint, address_value, has_operand, narrow_part, port_inside}
 use Rattle.cif_cycle.proofs.memory.read_address.Goals as goal

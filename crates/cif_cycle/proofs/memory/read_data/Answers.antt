@@ -1,5 +1,5 @@
 -- One more port at each turn.
-use Rattle.std.proofs.Common.{◌∙◌, ◌≡◌, ◌++◌, ap, length, List, Bool}
+use Rattle.std.proofs.Common.{◌∙◌, ◌++◌, ap, length, List, Bool}
 use Rattle.cif_defs.specs.Words.{bit}
 use Rattle.cif_defs.specs.Run.{operand_words}
 use Rattle.cif_defs.specs.TaintRun.{operand_taints}

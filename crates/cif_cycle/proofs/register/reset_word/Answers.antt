@@ -1,8 +1,8 @@
 -- The reset has one bit.
-use Rattle.std.proofs.Common.{◌∙◌, ◌≡◌, ◌≤◌, ap, sym, arith, length, false}
+use Rattle.std.proofs.Common.{◌∙◌, ◌≡◌, ap, arith, length, false}
 use Rattle.cif_defs.specs.Words.{bit}
 use Rattle.cif_defs.specs.Cells.{reset_operand}
-use Rattle.cif_cycle.proofs.ResetWords.{HasReset, reset_found}
+use Rattle.cif_cycle.proofs.ResetWords.{reset_found}
 use Rattle.cif_cycle.proofs.SourceWords.{length-source, length-taint}
 use Rattle.cif_cycle.proofs.register.reset_word.Goals as goal
 

@@ -1,4 +1,4 @@
-use Rattle.std.proofs.Common.{◌≡◌, true, false, refl}
+use Rattle.std.proofs.Common.{true, false, refl}
 use Rattle.cif_defs.proofs.NamesInOrder.{in_order, next_is_less}
 use Rattle.cif_defs.proofs.named.are_in_order.Goals.{in-Less, in_default}
 use Rattle.cif_defs.proofs.named.are_in_order.Goals as goal

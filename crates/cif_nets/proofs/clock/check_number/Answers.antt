@@ -7,7 +7,7 @@ use Rattle.cif_defs.specs.declared.raw_module.RawPort.{RawPort}
 use Rattle.cif_checks.specs.Checks.{first_fault, IsFirst}
 use Rattle.cif_nets.specs.Clocks.{operand_fault, port_fault}
 use Rattle.cif_checks.specs.declared.fault.BuildFault.{BuildFault}
-use Rattle.cif_checks.proofs.FirstFaults.{both_pass, IsFirst-left, IsFirst-right, IsFirst-same}
+use Rattle.cif_checks.proofs.FirstFaults.{both_pass, IsFirst-left, IsFirst-same}
 use Rattle.cif_nets.proofs.clock.check_number.Goals as goal
 
 pub returns-in_err-check_operands-clause-err : goal.returns-in_err-check_operands-clause-err

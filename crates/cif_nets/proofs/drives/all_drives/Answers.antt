@@ -1,4 +1,4 @@
-use Rattle.std.proofs.Common.{sym, subst, ap, ◌∙◌, ◌≤◌, ◌≡◌, arith, None, List, length}
+use Rattle.std.proofs.Common.{sym, subst, ap, ◌≤◌, ◌≡◌, arith, None, List, length}
 use Rattle.std.specs.List.{All, filter}
 use Rattle.cif_defs.specs.Accepted.{is_input}
 use Rattle.cif_defs.specs.declared.raw_module.RawPort.{RawPort}

@@ -1,4 +1,4 @@
-use Rattle.std.proofs.Common.{sym, ap, ◌∙◌, drop, ◌+◌}
+use Rattle.std.proofs.Common.{ap, ◌∙◌, drop, ◌+◌}
 use Rattle.cif_defs.specs.Accepted.{driven_from}
 use Rattle.cif_nets.specs.Told.{told_all}
 use Rattle.cif_nets.specs.Drives.{driven_more, driver_at}

@@ -1,11 +1,7 @@
-use Rattle.std.proofs.Common.{sym, ap, subst, ◌∙◌, ◌≤◌, ◌<◌, ℕ, arith, List, length}
-use Rattle.std.specs.List.{All}
-use Rattle.cif_defs.specs.RawModule.{port_bits}
-use Rattle.cif_defs.specs.declared.kinds.PortRow.{PortRow}
+use Rattle.std.proofs.Common.{sym, subst, ◌∙◌, ◌<◌, ℕ}
 use Rattle.cif_defs.specs.Table.{outputs_of}
 use Rattle.cif_checks.proofs.KnownCells.{ports_are}
 use Rattle.cif_nets.specs.Drives.{driven_more}
-use Rattle.cif_nets.specs.Kept.{is_kept}
 use Rattle.cif_nets.proofs.DriveLaws.{carried_recorded, memory_recorded, register_recorded, ports_recorded}
 use Rattle.cif_nets.proofs.FewBits.{few_at_outputs, few_at_ports, few_output_ports, memory_has_width}
 use Rattle.cif_nets.proofs.Kept.{few_kept_bits, memory_is_kept, register_is_kept}

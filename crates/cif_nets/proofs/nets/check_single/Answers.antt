@@ -1,4 +1,4 @@
-use Rattle.std.proofs.Common.{sym, ◌∙◌}
+use Rattle.std.proofs.Common.{◌∙◌}
 use Rattle.cif_nets.proofs.NetLaws.{contradiction, single_step}
 use Rattle.cif_nets.proofs.nets.check_single.Goals as goal
 use Rattle.cif_nets.proofs.nets.check_single.Goals.{in-Several, in_default}

@@ -1,4 +1,3 @@
-use Rattle.std.proofs.Common.{◌∙◌}
 use Rattle.cif_nets.proofs.NumberLaws.{both_pushed}
 use Rattle.cif_nets.proofs.numbers.numbers_held.Goals as goal
 

@@ -1,5 +1,5 @@
 -- All cells are due at the start.
-use Rattle.std.proofs.Common.{◌∙◌, ◌≡◌, ap, subst}
+use Rattle.std.proofs.Common.{◌∙◌, ap, subst}
 use Rattle.cif_defs.specs.Loop.{IsLevelled}
 use Rattle.cif_defs.specs.Netlist.{IsWired}
 use Rattle.cif_seq.specs.Cases.{CaseOf, net_of}

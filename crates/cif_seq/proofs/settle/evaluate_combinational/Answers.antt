@@ -1,5 +1,4 @@
 -- What is written is what the cell of the netlist gives.
-use Rattle.std.proofs.Common.{◌∙◌, ap}
 use Rattle.cif_defs.specs.Words.{bit}
 use Rattle.cif_defs.specs.Stimulus.{is_released}
 use Rattle.cif_seq.specs.Cases.{net_of}

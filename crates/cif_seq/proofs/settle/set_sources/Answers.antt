@@ -1,4 +1,4 @@
-use Rattle.std.proofs.Common.{refl, ◌∙◌, ◌≡◌, ap, arith, length}
+use Rattle.std.proofs.Common.{refl, ◌∙◌, arith}
 use Rattle.cif_seq.specs.Cases.{net_of}
 use Rattle.cif_seq.specs.GivenAt.{given_at}
 use Rattle.cif_readers.proofs.NoteLaws.{nothing_noted, notes_join}

@@ -1,4 +1,4 @@
-use Rattle.std.proofs.Common.{refl, arith, ◌∙◌, length}
+use Rattle.std.proofs.Common.{arith, length}
 use Rattle.cif_readers.proofs.NoteLaws.{notes_join}
 use Rattle.cif_shown.proofs.Passes.{all_shown}
 use Rattle.cif_seq.specs.Cases.{net_of}

@@ -1,4 +1,4 @@
-use Rattle.std.proofs.Common.{◌∙◌, ◌≡◌, List, Option, ℕ, [], ap, arith, get_or, sym}
+use Rattle.std.proofs.Common.{◌∙◌, ◌≡◌, [], arith, get_or, sym}
 use Rattle.std.proofs.lemmas.List.{get_or_default}
 use Rattle.cif_readers.proofs.NoteLaws.{notes_join}
 use Rattle.cif_seq.proofs.PutWords.{put_words_next}

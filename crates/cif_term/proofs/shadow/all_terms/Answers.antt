@@ -1,6 +1,4 @@
 -- One more term at each turn.
-use Rattle.std.specs.Prelude.{map}
-use Rattle.cif_term.specs.TermView.{formula_of}
 use Rattle.cif_term.proofs.ShadowTerms.{formulas_more, values_more}
 use Rattle.cif_term.proofs.shadow.all_terms.Goals as goal
 

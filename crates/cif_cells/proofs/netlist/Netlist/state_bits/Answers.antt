@@ -1,4 +1,4 @@
-use Rattle.std.proofs.Common.{arith, ap, subst, sym, ◌∙◌, ◌<◌, ◌≤◌, ◌≡◌, ◌^◌, ℕ, List}
+use Rattle.std.proofs.Common.{arith, ap, subst, sym, ◌∙◌, ◌<◌, ◌≡◌, ◌^◌, List}
 use Rattle.std.specs.List.{sum_by}
 use Rattle.cif_defs.specs.Accepted.{netlist_of}
 use Rattle.cif_defs.specs.Cells.{Cell, state_bits}

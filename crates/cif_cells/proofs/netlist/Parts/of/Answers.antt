@@ -1,7 +1,7 @@
 use Rattle.std.proofs.Common.{refl}
 use Rattle.cif_cells.proofs.BuildLaws.{holds}
 use Rattle.cif_nets.proofs.NetLaws.{numbers_increase}
-use Rattle.cif_nets.proofs.Passed.{Passed, passed}
+use Rattle.cif_nets.proofs.Passed.{passed}
 use Rattle.cif_cells.proofs.netlist.Parts.of.Goals as goal
 
 pub inputs_of-requires-clause-rising : goal.inputs_of-requires-clause-rising

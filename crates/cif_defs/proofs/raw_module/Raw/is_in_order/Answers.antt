@@ -1,4 +1,4 @@
-use Rattle.std.proofs.Common.{◌≡◌, List, subst, sym}
+use Rattle.std.proofs.Common.{subst, sym}
 use Rattle.std.specs.List.{AllByRecursion}
 use Rattle.cif_defs.specs.Order.{IsCellInOrder, IsNetInOrder}
 use Rattle.cif_defs.proofs.EachInOrder.{CellNamesInOrder, NetNamesInOrder, ParamsInOrder, PortsInOrder}

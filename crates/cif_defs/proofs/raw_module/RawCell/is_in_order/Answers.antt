@@ -1,4 +1,4 @@
-use Rattle.std.proofs.Common.{◌≡◌, List, subst, sym}
+use Rattle.std.proofs.Common.{subst, sym}
 use Rattle.cif_defs.proofs.EachInOrder.{ConnectionsInOrder, ParamsInOrder}
 use Rattle.cif_defs.proofs.raw_module.RawCell.is_in_order.Goals as goal
 

@@ -1,4 +1,4 @@
-use Rattle.std.proofs.Common.{ap, sym, subst, ◌∙◌, ◌≡◌, None, Option}
+use Rattle.std.proofs.Common.{ap, sym, subst, ◌∙◌, Option}
 use Rattle.std.specs.Prelude.{IfErr}
 use Rattle.cif_checks.specs.Checks.{IsFirst, drivers_fault}
 use Rattle.cif_checks.specs.declared.fault.BuildFault.{BuildFault}

@@ -1,4 +1,4 @@
-use Rattle.std.proofs.Common.{ap, sym, ◌∙◌}
+use Rattle.std.proofs.Common.{ap, ◌∙◌}
 use Rattle.cif_defs.specs.declared.raw_module.Raw.{Raw}
 use Rattle.cif_nets.specs.Drives.{driven_by}
 use Rattle.cif_nets.proofs.NetLaws.{drive_found, numbers_increase}

@@ -1,6 +1,5 @@
 -- The cell stands at its number in the netlist.
 use Rattle.std.proofs.Common.{sym, subst, length, ◌<◌}
-use Rattle.cif_defs.specs.Accepted.{netlist_of}
 use Rattle.cif_seq.specs.Cases.{CaseOf, net_of}
 use Rattle.cif_seq.proofs.CaseLaws.{fitted_found, numbers_found}
 use Rattle.cif_seq.proofs.case.Case.cell.Goals as goal
