@@ -19,7 +19,7 @@ use cif_defs::{Kind, Role};
 use cif_kinds::{Cell, table};
 use cif_term::Term;
 use std::alloc::Global;
-pub use words::taint_of;
+pub use words::{taint_of, term_words};
 
 /// Whether cells of this kind have terms here, as all combinational ones have.
 pub fn covers(kind: Kind) -> bool

@@ -12,8 +12,9 @@ use cif_kinds::Cell;
 use cif_term::Term;
 use std::alloc::Global;
 
-/// The values of a cell's terms, where `values` and `taints` are those of its operands.
-fn term_words(
+/// The taint words that the terms of a cell give, where `values` and `taints` are those of its operands. The only error
+/// is want of memory.
+pub fn term_words(
     alloc: Global,
     cell: &Cell,
     terms: &[Term],

@@ -2,7 +2,7 @@
 ghost use Rattle.std.specs.Prelude.{◌≡◌, ◌↔◌, length, map, IfOk, IsTrue, MatchOption};
 ghost use Rattle.cif_defs.specs.Kinds.{role_of};
 ghost use Rattle.cif_defs.specs.Fitted.{IsFitted, operand_widths};
-ghost use Rattle.cif_term.specs.CellTaints.{AreTaintsOf, taint_words};
+ghost use Rattle.cif_term.specs.CellTaints.{taint_words};
 ghost use Rattle.cif_term.specs.TermView.{formula_of};
 ghost use Rattle.cif_shapes.specs.Shapes.{shape_of};
 ghost use Rattle.cif_shapes.specs.Untainted.{untainted_words as untainted_words_of};
@@ -12,7 +12,7 @@ use crate::untainted::{is_tainted, untainted_words};
 use cif_bits::{Bits, NoMemory};
 use cif_defs::Role;
 use cif_kinds::Cell;
-use cif_rules::taint_terms;
+use cif_rules::{taint_terms, term_words};
 use cif_term::Term;
 use std::alloc::Global;
 use std::marker::Model;
@@ -35,28 +35,6 @@ impl Model for TaintRule {
     ghost view = { λ r. r.shape };
 
     ghost invariant = { λ r. AreTaintsOfShape r.shape (map formula_of r.terms.items) };
-}
-
-/// The values of a cell's terms, where `values` and `taints` are those of its operands.
-fn term_words(
-    alloc: Global,
-    cell: &Cell,
-    terms: &[Term],
-    values: &[Bits],
-    taints: &[Bits],
-) -> Result<Vec<Bits>, NoMemory>
-    requires terms { AreTaintsOf cell.now (map formula_of terms.now) }
-    requires values { map length values.now ≡ operand_widths cell.now }
-    requires taints { map length taints.now ≡ operand_widths cell.now }
-    ensures { IfOk result (λ ws. ws.items ≡ taint_words cell.now values.now taints.now) }
-{
-    let _cell = cell;
-    let mut words = Vec::with_capacity(alloc, terms.len())?;
-    for i in 0..terms.len() {
-        let term = &terms[i];
-        words.push(term.eval(alloc, values, taints)?)?;
-    }
-    Ok(words)
 }
 
 impl TaintRule {
