@@ -12,7 +12,7 @@ ghost use Rattle.cif_seq.specs.Cases.{net_of};
 use crate::stop::Stop;
 use cif_cells::{Src, Wire};
 use cif_io::{Sink, write_all};
-use cif_seq::{Case, Frame, first_frame, next_frame};
+use cif_seq::{Case, Frame, first_frame, following_frame};
 use cif_stimulus::Pair;
 use cif_text::{push_name, push_number};
 use std::alloc::{AllocError, Global};
@@ -87,18 +87,19 @@ fn push_port(text: &mut Vec<u8>, frame: &Frame, port: &Wire) -> Result<(), Alloc
     Ok(())
 }
 
-/// The lines of a frame's cycle.
-fn cycle_text(alloc: Global, frame: &Frame) -> Result<Vec<u8>, AllocError>
-    ensures { IfOk result (λ text. text.items
+/// Makes a buffer hold the lines of a frame's cycle.
+fn set_cycle(alloc: Global, text: &mut Vec<u8>, frame: &Frame) -> Result<(), AllocError>
+    ensures { OnOk result (text.new.items
         ≡ text_of_cycle (net_of frame.now.case) frame.now.case.stimulus frame.now.cycle) }
 {
-    let mut text = Vec::from_slice(alloc, b"cycle ")?;
-    push_number(alloc, &mut text, frame.cycle())?;
+    text.clear();
+    text.extend_from_slice(b"cycle ")?;
+    push_number(alloc, text, frame.cycle())?;
     text.push(b'\n')?;
     for port in frame.case().netlist().outputs() {
-        push_port(&mut text, frame, port)?;
+        push_port(text, frame, port)?;
     }
-    Ok(text)
+    Ok(())
 }
 
 /// The line after the last cycle.
@@ -125,8 +126,13 @@ pub(crate) fn write<W: Sink>(out: &mut W, text: &[u8]) -> Result<(), Stop>
     }
 }
 
-/// Writes the lines of a frame's cycle to out, as one piece.
-fn write_cycle<W: Sink>(alloc: Global, frame: &Frame, out: &mut W) -> Result<(), Stop>
+/// Writes the lines of a frame's cycle to out, as one piece, which it makes in a buffer.
+fn write_cycle<W: Sink>(
+    alloc: Global,
+    frame: &Frame,
+    text: &mut Vec<u8>,
+    out: &mut W,
+) -> Result<(), Stop>
     ensures all { OnOk result (Appends (W.taken out.old) (W.taken out.new)
         (text_of_cycle (net_of frame.now.case) frame.now.case.stimulus frame.now.cycle)) }
     ensures kept { OnOk result (W.faults out.new ≡ W.faults out.old) }
@@ -134,8 +140,8 @@ fn write_cycle<W: Sink>(alloc: Global, frame: &Frame, out: &mut W) -> Result<(),
         (W.taken out.old) (W.taken out.new)
         (text_of_cycle (net_of frame.now.case) frame.now.case.stimulus frame.now.cycle)) }
 {
-    let text = cycle_text(alloc, frame)?;
-    write(out, &text)
+    set_cycle(alloc, text, frame)?;
+    write(out, text)
 }
 
 /// Writes what a case shows in all its cycles to out, while it is computed: a piece for each cycle, and one for the last
@@ -152,11 +158,12 @@ pub(crate) fn write_cycles<W: Sink>(
         (W.taken out.old) (W.taken out.new)
         (eval_text (net_of case.now.value) case.now.value.stimulus)) }
 {
+    let mut text = Vec::new(alloc);
     let mut frame = first_frame(alloc, case)?;
-    write_cycle(alloc, &frame, out)?;
+    write_cycle(alloc, &frame, &mut text, out)?;
     for cycle in 1..case.cycles() {
-        frame = next_frame(alloc, &frame)?;
-        write_cycle(alloc, &frame, out)?;
+        frame = following_frame(alloc, frame)?;
+        write_cycle(alloc, &frame, &mut text, out)?;
     }
     let last = last_line(alloc, case.cycles())?;
     write(out, &last)

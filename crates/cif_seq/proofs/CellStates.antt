@@ -3,16 +3,16 @@ use Rattle.std.specs.Prelude.{ℕ, ◌+◌, ◌<◌, ◌≤◌, ◌≡◌, Bool,
 use Rattle.std.specs.List.{range_with_len}
 use Rattle.std.proofs.Common.{arith, ap, sym, subst, ◌∙◌}
 use Rattle.std.proofs.lemmas.List.{get_or_default}
-use Rattle.std.proofs.lemmas.List.FromFn.{map-range_with_len_more, get_or-map-range_with_len, length-map-range_with_len}
+use Rattle.std.proofs.lemmas.List.FromFn.{map-range_with_len_more}
 use Rattle.cif_defs.specs.Words.{Word}
 use Rattle.cif_defs.specs.Accepted.{netlist_of}
 use Rattle.cif_defs.specs.Kinds.{role_of}
 use Rattle.cif_defs.specs.Cells.{Cell, state_bits}
 use Rattle.cif_defs.specs.Fitted.{IsFitted, operand_widths}
-use Rattle.cif_defs.specs.Netlist.{Netlist, no_cell, cell_at, role_at}
+use Rattle.cif_defs.specs.Netlist.{Netlist, no_cell, cell_at}
 use Rattle.cif_defs.specs.Stimulus.{Stimulus, start_at}
-use Rattle.cif_defs.specs.Run.{state, next_stored, stored_by, operand_words}
-use Rattle.cif_defs.specs.TaintRun.{next_taints, taint_state, taint_stored_by, flag_by, operand_taints}
+use Rattle.cif_defs.specs.Run.{state, operand_words}
+use Rattle.cif_defs.specs.TaintRun.{taint_state, operand_taints}
 use Rattle.cif_defs.specs.declared.raw_module.Raw.{Raw}
 use Rattle.cif_defs.specs.declared.kinds.Kind.{Kind}
 use Rattle.cif_defs.specs.declared.kinds.Role.{Role}
@@ -25,9 +25,7 @@ use Rattle.cif_cells.proofs.FittedCells.{fitted_at, narrow_operand}
 use Rattle.cif_cells.proofs.MemoryCells.{memory_numbers}
 use Rattle.cif_cells.proofs.StateLaws.{few_state_bits}
 use Rattle.cif_cycle.specs.CellWords.{AreNarrow}
-use Rattle.cif_seq.specs.Stored.{IsStored}
-use Rattle.cif_seq.specs.States.{start_values, start_taints, start_flags, next_values, next_stored_taints, next_flags}
-use Rattle.cif_seq.proofs.StateWidths.{length-stored, length-taint}
+use Rattle.cif_seq.specs.States.{start_values, start_taints, start_flags}
 use Rattle.cif_cycle.proofs.SourceWords.{words_wide, taints_wide}
 
 -- ---- one more cell
@@ -65,38 +63,11 @@ taint_short raw s c v seen h l e q =
     let few : state_bits (cell_at (netlist_of raw) c) ≤ 16777216 = few_state_bits raw h c l in
     omega arith
 
--- ---- a cycle
-
-pub values_after_all : (n : Netlist) (stored : List Word) (v : ℕ → Bool) (i : ℕ) (values : List Word) → values ≡ next_values n stored v i → i ≡ length n.cells → values ≡ next_stored n stored v
-values_after_all n stored v i values e h = list_done (λ c. stored_by (role_at n c) (cell_at n c) v (get_or stored c [])) i (length n.cells) values e h
-
-pub taints_after_all : (n : Netlist) (stored stored_taints : List Word) (flags : List Bool) (v t : ℕ → Bool) (i : ℕ) (taints : List Word) → taints ≡ next_stored_taints n stored stored_taints v t i → i ≡ length n.cells
-    → taints ≡ (next_taints n stored v (record { stored = stored_taints; flags = flags }) t).stored
-taints_after_all n stored stored_taints flags v t i taints e h = list_done (λ c. taint_stored_by (role_at n c) (cell_at n c) v t (get_or stored c []) (get_or stored_taints c [])) i (length n.cells) taints e h
-
-pub flags_after_all : (n : Netlist) (stored stored_taints : List Word) (flags : List Bool) (v t : ℕ → Bool) (i : ℕ) (new : List Bool) → new ≡ next_flags n flags v t i → i ≡ length n.cells
-    → new ≡ (next_taints n stored v (record { stored = stored_taints; flags = flags }) t).flags
-flags_after_all n stored stored_taints flags v t i new e h = list_done (λ c. flag_by (role_at n c) (cell_at n c) v t (get_or flags c false)) i (length n.cells) new e h
-
-listed : (f : ℕ → Word) (n c : ℕ) (xs : List Word) → xs ≡ map f (range_with_len 0 n) → c < n → get_or xs c [] ≡ f c
-listed f n c xs e l = ap (λ (ws : List Word). get_or ws c []) e ∙ get_or-map-range_with_len f 0 n c c [] l (omega arith)
-
--- the words after a cycle are as long as what the cells store
-pub next_is_stored : (n : Netlist) (stored stored_taints : List Word) (flags : List Bool) (v t : ℕ → Bool) (i : ℕ) (values taints : List Word) (new : List Bool) → values ≡ next_values n stored v i → taints ≡ next_stored_taints n stored stored_taints v t i
-    → new ≡ next_flags n flags v t i → i ≡ length n.cells → IsStored n values taints new
-next_is_stored n stored stored_taints flags v t i values taints new ev et ef h = record {
-  as_many_values = ap length ev ∙ length-map-range_with_len _ 0 i ∙ h;
-  as_many_taints = ap length et ∙ length-map-range_with_len _ 0 i ∙ h;
-  as_many_flags = ap length ef ∙ length-map-range_with_len _ 0 i ∙ h;
-  value_width = λ c l. ap length (listed (λ x. stored_by (role_at n x) (cell_at n x) v (get_or stored x [])) i c values ev (omega arith)) ∙ length-stored (role_at n c) (cell_at n c) v (get_or stored c []);
-  taint_width = λ c l. ap length (listed (λ x. taint_stored_by (role_at n x) (cell_at n x) v t (get_or stored x []) (get_or stored_taints x [])) i c taints et (omega arith)) ∙ length-taint (role_at n c) (cell_at n c) v t (get_or stored c []) (get_or stored_taints c []);
-}
+-- ---- one cell
 
 -- a word that was read at its number
 pub word_read : (words : List Word) (i : ℕ) (w : Word) → i < length words → w ≡ get_or words i w → w ≡ get_or words i []
 word_read words i w l e = e ∙ get_or_default words i w [] l
-
--- ---- one cell
 
 pub fitted_read : (raw : Raw) (cells : List Cell) (c : ℕ) (x : Cell) → AreFitted cells → cells ≡ (netlist_of raw).cells → x ≡ get_or cells c x → c < length (netlist_of raw).cells → IsFitted x
 fitted_read raw cells c x f e h l =
@@ -122,14 +93,3 @@ taints_long t x seen us e h = ap (λ (ws : List Word). map length ws) (e ∙ h) 
 
 pub flag_read : (flags : List Bool) (i : ℕ) (b : Bool) → i < length flags → b ≡ get_or flags i b → b ≡ get_or flags i false
 flag_read flags i b l e = e ∙ get_or_default flags i b false l
-
-pub value_of_next : (n : Netlist) (v : ℕ → Bool) (stored : List Word) (c : ℕ) (w x : Word) → w ≡ get_or stored c [] → x ≡ stored_by (role_at n c) (cell_at n c) v w → x ≡ stored_by (role_at n c) (cell_at n c) v (get_or stored c [])
-value_of_next n v stored c w x e h = h ∙ ap (λ (u : Word). stored_by (role_at n c) (cell_at n c) v u) e
-
-pub taint_of_next : (n : Netlist) (v t : ℕ → Bool) (stored stored_taints : List Word) (c : ℕ) (w u x : Word) → w ≡ get_or stored c [] → u ≡ get_or stored_taints c [] → x ≡ taint_stored_by (role_at n c) (cell_at n c) v t w u
-    → x ≡ taint_stored_by (role_at n c) (cell_at n c) v t (get_or stored c []) (get_or stored_taints c [])
-taint_of_next n v t stored stored_taints c w u x e f h =
-    h ∙ ap (λ (y : Word). taint_stored_by (role_at n c) (cell_at n c) v t y u) e ∙ ap (λ (y : Word). taint_stored_by (role_at n c) (cell_at n c) v t (get_or stored c []) y) f
-
-pub flag_of_next : (n : Netlist) (v t : ℕ → Bool) (flags : List Bool) (c : ℕ) (b x : Bool) → b ≡ get_or flags c false → x ≡ flag_by (role_at n c) (cell_at n c) v t b → x ≡ flag_by (role_at n c) (cell_at n c) v t (get_or flags c false)
-flag_of_next n v t flags c b x e h = h ∙ ap (λ y. flag_by (role_at n c) (cell_at n c) v t y) e

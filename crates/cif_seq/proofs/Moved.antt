@@ -1,124 +1,182 @@
 -- Which cells store something else after a cycle, and which rest.
-use Rattle.std.specs.Prelude.{ℕ, ◌+◌, ◌<◌, ◌≤◌, ◌≡◌, ◌≢◌, ◌⊎◌, Bool, true, false, List, [], ◌∷◌, ◌++◌, length, get_or, replicate}
-use Rattle.std.proofs.Common.{arith, ap, sym, ◌∙◌, inl, inr, subst}
-use Rattle.std.proofs.lemmas.List.{get_or_append_left, get_or_past, get_or-replicate, length-append}
-use Rattle.std.proofs.Math.Seq.{get_or-append_seam}
+use Rattle.std.specs.Prelude.{ℕ, ◌+◌, ◌<◌, ◌≤◌, ◌≡◌, ◌≢◌, ◌⊎◌, Bool, true, false, List, [], length, map, get_or, replicate, slice_set, refl}
+use Rattle.std.specs.List.{range_with_len}
+use Rattle.std.proofs.Common.{arith, ap, sym, ◌∙◌, inl, inr, subst, get_or-set_same, get_or-set_other}
+use Rattle.std.proofs.lemmas.List.{ext_get_or, get_or_past, get_or-replicate, length-set}
+use Rattle.std.proofs.lemmas.List.FromFn.{get_or-map-range_with_len, length-map-range_with_len}
 use Rattle.cif_defs.specs.Words.{Word, bit}
-use Rattle.cif_defs.specs.Cells.{Cell}
+use Rattle.cif_defs.specs.Cells.{Cell, state_bits}
 use Rattle.cif_defs.specs.Kinds.{role_of}
 use Rattle.cif_defs.specs.Netlist.{Netlist, cell_at, no_cell, role_at}
-use Rattle.cif_defs.specs.Run.{stored_by}
-use Rattle.cif_defs.specs.TaintRun.{flag_by, taint_stored_by}
+use Rattle.cif_defs.specs.Run.{next_stored, stored_by}
+use Rattle.cif_defs.specs.TaintRun.{flag_by, next_taints, taint_stored_by}
 use Rattle.cif_defs.specs.declared.kinds.Role.{Role}
 use Rattle.cif_defs.specs.declared.kinds.Role.TheVariants.{CarriedOver}
 use Rattle.cif_defs.proofs.WordLaws.{le_or_lt}
-use Rattle.cif_shown.specs.Shown.{AreKept, AreResting, Given, KeepsAt, Rests, WillRest}
+use Rattle.cif_shown.specs.Shown.{AreKept, AreResting, Follows, Given, KeepsAt, Rests, WillRest}
+use Rattle.cif_seq.specs.States.{MovesCell}
 use Rattle.cif_seq.specs.Stored.{IsStored, given_words}
+use Rattle.cif_seq.proofs.StateWidths.{length-stored, length-taint}
 
--- ---- cell by cell
-
--- of the cells below a number, each that isn't said to move keeps what it stores
-pub record KeptBelow (before : Given) (values taints : List Word) (flags moved : List Bool) (end : ℕ) : Type 0 where
-  pub as_many_values : length values ≡ end
-  pub as_many_taints : length taints ≡ end
-  pub as_many_flags : length flags ≡ end
-  pub as_many_moved : length moved ≡ end
-  pub kept : (c : ℕ) → c < end → bit moved c ≡ false → KeepsAt before (given_words values taints flags) c
-
-one_longer : {A : Type 0} (xs : List A) (x : A) (n : ℕ) → length xs ≡ n → length (xs ++ x ∷ []) ≡ n + 1
-one_longer xs x n e = let l : length (xs ++ x ∷ []) ≡ length xs + 1 = length-append xs (x ∷ []) in omega arith
-
-at_end : {A : Type 0} (xs : List A) (x d : A) (n : ℕ) → length xs ≡ n → get_or (xs ++ x ∷ []) n d ≡ x
-at_end xs x d n e = ap (λ k. get_or (xs ++ x ∷ []) k d) (sym e) ∙ get_or-append_seam xs x [] d
-
-at_front : {A : Type 0} (xs : List A) (x d : A) (n c : ℕ) → length xs ≡ n → c < n → get_or (xs ++ x ∷ []) c d ≡ get_or xs c d
-at_front xs x d n c e l = get_or_append_left xs (x ∷ []) d c (omega arith)
+-- ---- one cell
 
 same_or_not : (i j : ℕ) → (i ≡ j) ⊎ (i ≢ j)
 same_or_not i j = search arith
 
-kept_front : (before : Given) (values taints : List Word) (flags moved : List Bool) (end c : ℕ) (x y : Word) (f m : Bool) → KeptBelow before values taints flags moved end → c < end → bit (moved ++ m ∷ []) c ≡ false
-    → KeepsAt before (given_words (values ++ x ∷ []) (taints ++ y ∷ []) (flags ++ f ∷ [])) c
-kept_front before values taints flags moved end c x y f m h l e =
-    let k = h.kept c l (sym (at_front moved m false end c h.as_many_moved l) ∙ e) in
-    record {
-      value = at_front values x [] end c h.as_many_values l ∙ k.value;
-      taint = at_front taints y [] end c h.as_many_taints l ∙ k.taint;
-      flag = at_front flags f false end c h.as_many_flags l ∙ k.flag;
-    }
-
-kept_end : (before : Given) (values taints : List Word) (flags moved : List Bool) (end : ℕ) (x y : Word) (f m : Bool) → KeptBelow before values taints flags moved end → (m ≡ false → x ≡ get_or before.stored end []) → (m ≡ false → y ≡ get_or before.state.stored end [])
-    → (m ≡ false → f ≡ get_or before.state.flags end false) → bit (moved ++ m ∷ []) end ≡ false → KeepsAt before (given_words (values ++ x ∷ []) (taints ++ y ∷ []) (flags ++ f ∷ [])) end
-kept_end before values taints flags moved end x y f m h ex ey ef e =
-    let still : m ≡ false = sym (at_end moved m false end h.as_many_moved) ∙ e in
-    record {
-      value = at_end values x [] end h.as_many_values ∙ ex still;
-      taint = at_end taints y [] end h.as_many_taints ∙ ey still;
-      flag = at_end flags f false end h.as_many_flags ∙ ef still;
-    }
-
-kept_here : (before : Given) (values taints : List Word) (flags moved : List Bool) (end : ℕ) (x y : Word) (f m : Bool) → KeptBelow before values taints flags moved end → (m ≡ false → x ≡ get_or before.stored end []) → (m ≡ false → y ≡ get_or before.state.stored end [])
-    → (m ≡ false → f ≡ get_or before.state.flags end false) → KeptBelow before (values ++ x ∷ []) (taints ++ y ∷ []) (flags ++ f ∷ []) (moved ++ m ∷ []) (end + 1)
-kept_here before values taints flags moved end x y f m h ex ey ef = record {
-  as_many_values = one_longer values x end h.as_many_values;
-  as_many_taints = one_longer taints y end h.as_many_taints;
-  as_many_flags = one_longer flags f end h.as_many_flags;
-  as_many_moved = one_longer moved m end h.as_many_moved;
-  kept = λ c l e. elim (same_or_not c end) [
-    | inl q ↦ subst (λ k. KeepsAt before (given_words (values ++ x ∷ []) (taints ++ y ∷ []) (flags ++ f ∷ [])) k) (sym q) (kept_end before values taints flags moved end x y f m h ex ey ef (ap (bit (moved ++ m ∷ [])) (sym q) ∙ e))
-    | inr d ↦ kept_front before values taints flags moved end c x y f m h (search arith) e
-  ];
+-- a cell that isn't marked rests
+pub cell_rested : (n : Netlist) (g : Given) (values taints marks : List Bool) (c : ℕ) → Rests n g values taints c → MovesCell n g g values taints marks marks c
+cell_rested n g values taints marks c h = record {
+  follows = record { value = sym h.value; taint = sym h.taint; flag = sym h.flag };
+  kept = λ e. keeps g c;
+  others = λ d e. keeps g d;
+  other_marks = λ d e. refl;
 }
+  where
+    keeps : (g : Given) (d : ℕ) → KeepsAt g g d
+    keeps g d = record { value = refl; taint = refl; flag = refl }
 
--- one more cell, as the code appends it
-pub kept_more : (before : Given) (values taints : List Word) (flags moved : List Bool) (new_values new_taints : List Word) (new_flags new_moved : List Bool) (end : ℕ) (w u x y : Word) (g f m : Bool) → KeptBelow before values taints flags moved end
-    → w ≡ get_or before.stored end [] → u ≡ get_or before.state.stored end [] → g ≡ get_or before.state.flags end false → (m ≡ false → x ≡ w) → (m ≡ false → y ≡ u) → (m ≡ false → f ≡ g)
-    → new_values ≡ values ++ x ∷ [] → new_taints ≡ taints ++ y ∷ [] → new_flags ≡ flags ++ f ∷ [] → new_moved ≡ moved ++ m ∷ [] → KeptBelow before new_values new_taints new_flags new_moved (end + 1)
-kept_more before values taints flags moved new_values new_taints new_flags new_moved end w u x y g f m h ew eu eg ex ey ef nv nt nf nm =
-    rw (nv, nt, nf, nm) (kept_here before values taints flags moved end x y f m h (λ e. ex e ∙ ew) (λ e. ey e ∙ eu) (λ e. ef e ∙ eg))
-
-pub none_kept : (before : Given) (values taints : List Word) (flags moved : List Bool) → values ≡ [] → taints ≡ [] → flags ≡ [] → moved ≡ [] → KeptBelow before values taints flags moved 0
-none_kept before values taints flags moved ev et ef em = record {
-  as_many_values = ap length ev;
-  as_many_taints = ap length et;
-  as_many_flags = ap length ef;
-  as_many_moved = ap length em;
-  kept = λ c l e. absurd (omega arith);
-}
-
-kept_past : (n : Netlist) (stored stored_taints : List Word) (stored_flags : List Bool) (values taints : List Word) (flags : List Bool) (c : ℕ) → IsStored n stored stored_taints stored_flags → length values ≡ length n.cells → length taints ≡ length n.cells → length flags ≡ length n.cells
-    → length n.cells ≤ c → KeepsAt (given_words stored stored_taints stored_flags) (given_words values taints flags) c
-kept_past n stored stored_taints stored_flags values taints flags c s ev et ef l =
-    let a : length stored ≡ length n.cells = s.as_many_values in let b : length stored_taints ≡ length n.cells = s.as_many_taints in let d : length stored_flags ≡ length n.cells = s.as_many_flags in
+-- a cell whose words, flag and mark are written
+pub cell_moved : (n : Netlist) (stored stored_taints : List Word) (flags : List Bool) (new new_taints : List Word) (new_flags values taints marks new_marks : List Bool) (c : ℕ) (w u x y : Word) (g f m : Bool) → IsStored n stored stored_taints flags → c < length n.cells → length marks ≡ length n.cells
+    → w ≡ get_or stored c [] → u ≡ get_or stored_taints c [] → g ≡ get_or flags c false → x ≡ stored_by (role_at n c) (cell_at n c) (bit values) w → y ≡ taint_stored_by (role_at n c) (cell_at n c) (bit values) (bit taints) w u
+    → f ≡ flag_by (role_at n c) (cell_at n c) (bit values) (bit taints) g → (m ≡ false → x ≡ w) → (m ≡ false → y ≡ u) → (m ≡ false → f ≡ g)
+    → new ≡ slice_set stored c x → new_taints ≡ slice_set stored_taints c y → new_flags ≡ slice_set flags c f → new_marks ≡ slice_set marks c m
+    → MovesCell n (given_words stored stored_taints flags) (given_words new new_taints new_flags) values taints marks new_marks c
+cell_moved n stored stored_taints flags new new_taints new_flags values taints marks new_marks c w u x y g f m s l lm ew eu eg ex ey ef kx ky kf nv nt nf nm =
+    let lv : length stored ≡ length n.cells = s.as_many_values in
+    let lt : length stored_taints ≡ length n.cells = s.as_many_taints in
+    let lf : length flags ≡ length n.cells = s.as_many_flags in
+    let here : get_or new c [] ≡ x = ap (λ (ws : List Word). get_or ws c []) nv ∙ get_or-set_same stored c x [] (omega arith) in
+    let here_taint : get_or new_taints c [] ≡ y = ap (λ (ws : List Word). get_or ws c []) nt ∙ get_or-set_same stored_taints c y [] (omega arith) in
+    let here_flag : get_or new_flags c false ≡ f = ap (λ (bs : List Bool). get_or bs c false) nf ∙ get_or-set_same flags c f false (omega arith) in
+    let here_mark : bit new_marks c ≡ m = ap (λ (bs : List Bool). bit bs c) nm ∙ get_or-set_same marks c m false (omega arith) in
     record {
-      value = get_or_past values c [] (omega arith) ∙ sym (get_or_past stored c [] (omega arith));
-      taint = get_or_past taints c [] (omega arith) ∙ sym (get_or_past stored_taints c [] (omega arith));
-      flag = get_or_past flags c false (omega arith) ∙ sym (get_or_past stored_flags c false (omega arith));
+      follows = record {
+        value = here ∙ ex ∙ ap (λ (z : Word). stored_by (role_at n c) (cell_at n c) (bit values) z) ew;
+        taint = here_taint ∙ ey ∙ ap (λ (z : Word). taint_stored_by (role_at n c) (cell_at n c) (bit values) (bit taints) z u) ew ∙ ap (λ (z : Word). taint_stored_by (role_at n c) (cell_at n c) (bit values) (bit taints) (get_or stored c []) z) eu;
+        flag = here_flag ∙ ef ∙ ap (λ z. flag_by (role_at n c) (cell_at n c) (bit values) (bit taints) z) eg;
+      };
+      kept = λ e. let still : m ≡ false = sym here_mark ∙ e in record {
+        value = here ∙ kx still ∙ ew;
+        taint = here_taint ∙ ky still ∙ eu;
+        flag = here_flag ∙ kf still ∙ eg;
+      };
+      others = λ d e. record {
+        value = ap (λ (ws : List Word). get_or ws d []) nv ∙ get_or-set_other stored c d x [] e;
+        taint = ap (λ (ws : List Word). get_or ws d []) nt ∙ get_or-set_other stored_taints c d y [] e;
+        flag = ap (λ (bs : List Bool). get_or bs d false) nf ∙ get_or-set_other flags c d f false e;
+      };
+      other_marks = λ d e. ap (λ (bs : List Bool). bit bs d) nm ∙ get_or-set_other marks c d m false e;
     }
 
--- all cells
-pub all_kept : (n : Netlist) (stored stored_taints : List Word) (stored_flags : List Bool) (values taints : List Word) (flags moved : List Bool) (end : ℕ) → IsStored n stored stored_taints stored_flags → end ≡ length n.cells
-    → KeptBelow (given_words stored stored_taints stored_flags) values taints flags moved end → AreKept (given_words stored stored_taints stored_flags) (given_words values taints flags) moved
-unfolding AreKept
-all_kept n stored stored_taints stored_flags values taints flags moved end s e h = λ c m. elim (le_or_lt c end) [
-  | inl l ↦ h.kept c l m
-  | inr l ↦ kept_past n stored stored_taints stored_flags values taints flags c s (h.as_many_values ∙ e) (h.as_many_taints ∙ e) (h.as_many_flags ∙ e) (omega arith)
+-- a list in which the entry at a cell's number is written, and each entry then has the cell's width
+set_wide : (n : Netlist) (ws : List Word) (c d : ℕ) (x : Word) → c < length ws → length x ≡ state_bits (cell_at n c) → (d < length n.cells → length (get_or ws d []) ≡ state_bits (cell_at n d)) → d < length n.cells → length (get_or (slice_set ws c x) d []) ≡ state_bits (cell_at n d)
+set_wide n ws c d x l e h ld = elim (same_or_not d c) [
+  | inl q ↦ ap (λ k. length (get_or (slice_set ws c x) k [])) q ∙ ap length (get_or-set_same ws c x [] l) ∙ e ∙ ap (λ k. state_bits (cell_at n k)) (sym q)
+  | inr q ↦ ap length (get_or-set_other ws c d x [] q) ∙ h ld
 ]
 
--- ---- what a cell that isn't due stores next
+-- the words are still as long as the states of the cells
+pub moved_stored : (n : Netlist) (stored stored_taints : List Word) (flags : List Bool) (new new_taints : List Word) (new_flags values taints : List Bool) (c : ℕ) (w u x y : Word) (f : Bool) → IsStored n stored stored_taints flags → c < length n.cells
+    → x ≡ stored_by (role_at n c) (cell_at n c) (bit values) w → y ≡ taint_stored_by (role_at n c) (cell_at n c) (bit values) (bit taints) w u → new ≡ slice_set stored c x → new_taints ≡ slice_set stored_taints c y → new_flags ≡ slice_set flags c f → IsStored n new new_taints new_flags
+moved_stored n stored stored_taints flags new new_taints new_flags values taints c w u x y f s l ex ey nv nt nf =
+    let lv : length stored ≡ length n.cells = s.as_many_values in
+    let lt : length stored_taints ≡ length n.cells = s.as_many_taints in
+    record {
+      as_many_values = ap length nv ∙ length-set stored c x ∙ s.as_many_values;
+      as_many_taints = ap length nt ∙ length-set stored_taints c y ∙ s.as_many_taints;
+      as_many_flags = ap length nf ∙ length-set flags c f ∙ s.as_many_flags;
+      value_width = λ d ld. ap (λ (ws : List Word). length (get_or ws d [])) nv ∙ set_wide n stored c d x (omega arith) (ap length ex ∙ length-stored (role_at n c) (cell_at n c) (bit values) w) (s.value_width d) ld;
+      taint_width = λ d ld. ap (λ (ws : List Word). length (get_or ws d [])) nt ∙ set_wide n stored_taints c d y (omega arith) (ap length ey ∙ length-taint (role_at n c) (cell_at n c) (bit values) (bit taints) w u) (s.taint_width d) ld;
+    }
 
-pub rests_value : (n : Netlist) (g : Given) (values taints due : List Bool) (c : ℕ) (w : Word) (is_due : Bool) → AreResting n g values taints due → is_due ≡ bit due c → w ≡ get_or g.stored c [] → is_due ≡ false → stored_by (role_at n c) (cell_at n c) (bit values) w ≡ w
-unfolding AreResting
-rests_value n g values taints due c w is_due h e q clear = rw q ((h c (sym e ∙ clear)).value)
+-- ---- cell by cell
 
-pub rests_taint : (n : Netlist) (g : Given) (values taints due : List Bool) (c : ℕ) (w u : Word) (is_due : Bool) → AreResting n g values taints due → is_due ≡ bit due c → w ≡ get_or g.stored c [] → u ≡ get_or g.state.stored c [] → is_due ≡ false
-    → taint_stored_by (role_at n c) (cell_at n c) (bit values) (bit taints) w u ≡ u
-unfolding AreResting
-rests_taint n g values taints due c w u is_due h e q r clear = rw (q, r) ((h c (sym e ∙ clear)).taint)
+-- the cells below a number have moved, and the others are as they were
+pub record MovedBelow (n : Netlist) (before after : Given) (values taints due marks : List Bool) (end : ℕ) : Type 0 where
+  pub follows : (c : ℕ) → c < end → Follows n before after values taints c
+  pub kept : (c : ℕ) → c < end → bit marks c ≡ false → KeepsAt before after c
+  pub waits : (c : ℕ) → end ≤ c → KeepsAt before after c
+  pub still_due : (c : ℕ) → end ≤ c → bit marks c ≡ bit due c
 
-pub rests_flag : (n : Netlist) (g : Given) (values taints due : List Bool) (c : ℕ) (f is_due : Bool) → AreResting n g values taints due → is_due ≡ bit due c → f ≡ get_or g.state.flags c false → is_due ≡ false → flag_by (role_at n c) (cell_at n c) (bit values) (bit taints) f ≡ f
+pub none_moved : (n : Netlist) (g : Given) (values taints due : List Bool) → MovedBelow n g g values taints due due 0
+none_moved n g values taints due = record {
+  follows = λ c l. absurd (omega arith);
+  kept = λ c l e. absurd (omega arith);
+  waits = λ c l. record { value = refl; taint = refl; flag = refl };
+  still_due = λ c l. refl;
+}
+
+keeps_join : (before mid after : Given) (c : ℕ) → KeepsAt before mid c → KeepsAt mid after c → KeepsAt before after c
+keeps_join before mid after c h k = record { value = k.value ∙ h.value; taint = k.taint ∙ h.taint; flag = k.flag ∙ h.flag }
+
+follows_kept : (n : Netlist) (before mid after : Given) (values taints : List Bool) (c : ℕ) → Follows n before mid values taints c → KeepsAt mid after c → Follows n before after values taints c
+follows_kept n before mid after values taints c h k = record { value = k.value ∙ h.value; taint = k.taint ∙ h.taint; flag = k.flag ∙ h.flag }
+
+kept_follows : (n : Netlist) (before mid after : Given) (values taints : List Bool) (c : ℕ) → KeepsAt before mid c → Follows n mid after values taints c → Follows n before after values taints c
+kept_follows n before mid after values taints c k h = record {
+  value = h.value ∙ ap (λ (w : Word). stored_by (role_at n c) (cell_at n c) (bit values) w) k.value;
+  taint = h.taint ∙ ap (λ (w : Word). taint_stored_by (role_at n c) (cell_at n c) (bit values) (bit taints) w (get_or mid.state.stored c [])) k.value
+      ∙ ap (λ (w : Word). taint_stored_by (role_at n c) (cell_at n c) (bit values) (bit taints) (get_or before.stored c []) w) k.taint;
+  flag = h.flag ∙ ap (λ b. flag_by (role_at n c) (cell_at n c) (bit values) (bit taints) b) k.flag;
+}
+
+-- the cell at the number moves too
+pub one_moved : (n : Netlist) (before mid after : Given) (values taints due marks new_marks : List Bool) (end : ℕ) → MovedBelow n before mid values taints due marks end → MovesCell n mid after values taints marks new_marks end → MovedBelow n before after values taints due new_marks (end + 1)
+one_moved n before mid after values taints due marks new_marks end h m = record {
+  follows = λ c l. elim (same_or_not c end) [
+    | inl q ↦ subst (λ k. Follows n before after values taints k) (sym q) (kept_follows n before mid after values taints end (h.waits end (omega arith)) m.follows)
+    | inr d ↦ follows_kept n before mid after values taints c (h.follows c (search arith)) (m.others c d)
+  ];
+  kept = λ c l e. elim (same_or_not c end) [
+    | inl q ↦ subst (λ k. KeepsAt before after k) (sym q) (keeps_join before mid after end (h.waits end (omega arith)) (m.kept (ap (bit new_marks) (sym q) ∙ e)))
+    | inr d ↦ keeps_join before mid after c (h.kept c (search arith) (sym (m.other_marks c d) ∙ e)) (m.others c d)
+  ];
+  waits = λ c l. keeps_join before mid after c (h.waits c (omega arith)) (m.others c (past_end c l));
+  still_due = λ c l. m.other_marks c (past_end c l) ∙ h.still_due c (omega arith);
+}
+  where
+    past_end : (c : ℕ) → end + 1 ≤ c → c ≢ end
+    past_end c l e = absurd (omega arith)
+
+-- a cell that is still to come and isn't marked rests
+pub rests_still : (n : Netlist) (before after : Given) (values taints due marks : List Bool) (end : ℕ) → AreResting n before values taints due → MovedBelow n before after values taints due marks end → bit marks end ≡ false → Rests n after values taints end
 unfolding AreResting
-rests_flag n g values taints due c f is_due h e q clear = rw q ((h c (sym e ∙ clear)).flag)
+rests_still n before after values taints due marks end h m e =
+    let r = h end (sym (m.still_due end (omega arith)) ∙ e) in
+    let k = m.waits end (omega arith) in
+    record {
+      value = ap (λ (w : Word). stored_by (role_at n end) (cell_at n end) (bit values) w) k.value ∙ r.value ∙ sym k.value;
+      taint = ap (λ (w : Word). taint_stored_by (role_at n end) (cell_at n end) (bit values) (bit taints) w (get_or after.state.stored end [])) k.value
+          ∙ ap (λ (w : Word). taint_stored_by (role_at n end) (cell_at n end) (bit values) (bit taints) (get_or before.stored end []) w) k.taint ∙ r.taint ∙ sym k.taint;
+      flag = ap (λ b. flag_by (role_at n end) (cell_at n end) (bit values) (bit taints) b) k.flag ∙ r.flag ∙ sym k.flag;
+    }
+
+-- ---- all cells
+
+pub all_kept : (n : Netlist) (before after : Given) (values taints due marks : List Bool) (end : ℕ) → MovedBelow n before after values taints due marks end → AreKept before after marks
+unfolding AreKept
+all_kept n before after values taints due marks end h = λ c e. elim (le_or_lt c end) [
+  | inl l ↦ h.kept c l e
+  | inr l ↦ h.waits c l
+]
+
+listed : {A : Type 0} (f : ℕ → A) (n : ℕ) (xs : List A) (d : A) → length xs ≡ n → ((c : ℕ) → c < n → get_or xs c d ≡ f c) → xs ≡ map f (range_with_len 0 n)
+listed f n xs d e h = ext_get_or d xs (map f (range_with_len 0 n)) (e ∙ sym (length-map-range_with_len f 0 n)) (λ c l. h c (omega arith) ∙ sym (get_or-map-range_with_len f 0 n c c d (omega arith) (omega arith)))
+
+pub all_values : (n : Netlist) (stored stored_taints : List Word) (flags : List Bool) (new new_taints : List Word) (new_flags values taints due marks : List Bool) (end : ℕ) → IsStored n new new_taints new_flags → length n.cells ≤ end
+    → MovedBelow n (given_words stored stored_taints flags) (given_words new new_taints new_flags) values taints due marks end → new ≡ next_stored n stored (bit values)
+all_values n stored stored_taints flags new new_taints new_flags values taints due marks end s l h =
+    listed (λ c. stored_by (role_at n c) (cell_at n c) (bit values) (get_or stored c [])) (length n.cells) new [] s.as_many_values (λ c k. (h.follows c (omega arith)).value)
+
+pub all_taints : (n : Netlist) (stored stored_taints : List Word) (flags : List Bool) (new new_taints : List Word) (new_flags values taints due marks : List Bool) (end : ℕ) → IsStored n new new_taints new_flags → length n.cells ≤ end
+    → MovedBelow n (given_words stored stored_taints flags) (given_words new new_taints new_flags) values taints due marks end → new_taints ≡ (next_taints n stored (bit values) (record { stored = stored_taints; flags = flags }) (bit taints)).stored
+all_taints n stored stored_taints flags new new_taints new_flags values taints due marks end s l h =
+    listed (λ c. taint_stored_by (role_at n c) (cell_at n c) (bit values) (bit taints) (get_or stored c []) (get_or stored_taints c [])) (length n.cells) new_taints [] s.as_many_taints (λ c k. (h.follows c (omega arith)).taint)
+
+pub all_flags : (n : Netlist) (stored stored_taints : List Word) (flags : List Bool) (new new_taints : List Word) (new_flags values taints due marks : List Bool) (end : ℕ) → IsStored n new new_taints new_flags → length n.cells ≤ end
+    → MovedBelow n (given_words stored stored_taints flags) (given_words new new_taints new_flags) values taints due marks end → new_flags ≡ (next_taints n stored (bit values) (record { stored = stored_taints; flags = flags }) (bit taints)).flags
+all_flags n stored stored_taints flags new new_taints new_flags values taints due marks end s l h =
+    listed (λ c. flag_by (role_at n c) (cell_at n c) (bit values) (bit taints) (get_or flags c false)) (length n.cells) new_flags false s.as_many_flags (λ c k. (h.follows c (omega arith)).flag)
 
 -- ---- at the start nothing needs to rest, since all cells are due
 

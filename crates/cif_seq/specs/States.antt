@@ -1,11 +1,10 @@
--- What the first cells start with, and what they store next.
-use Rattle.std.specs.Prelude.{ℕ, Bool, false, List, [], map, get_or}
+-- What the first cells start with, and how a cell moves on to what it stores next.
+use Rattle.std.specs.Prelude.{ℕ, ◌≡◌, ◌≢◌, Bool, false, List, map}
 use Rattle.std.specs.List.{range_with_len}
-use Rattle.cif_defs.specs.Words.{Word}
-use Rattle.cif_defs.specs.Netlist.{Netlist, cell_at, role_at}
+use Rattle.cif_defs.specs.Words.{Word, bit}
+use Rattle.cif_defs.specs.Netlist.{Netlist}
 use Rattle.cif_defs.specs.Stimulus.{Stimulus, start_at}
-use Rattle.cif_defs.specs.Run.{stored_by}
-use Rattle.cif_defs.specs.TaintRun.{taint_stored_by, flag_by}
+use Rattle.cif_shown.specs.Shown.{Follows, Given, KeepsAt}
 
 -- ---- the first i cells at the start
 
@@ -18,13 +17,12 @@ start_taints n s i = map (λ c. (start_at n s c).taint) (range_with_len 0 i)
 abbrev pub start_flags : ℕ → List Bool
 start_flags i = map (λ c. false) (range_with_len 0 i)
 
--- ---- after a cycle, where v and t are the values and the taints of the net bits
+-- ---- one cell moves on
 
-abbrev pub next_values : Netlist → List Word → (ℕ → Bool) → ℕ → List Word
-next_values n stored v i = map (λ c. stored_by (role_at n c) (cell_at n c) v (get_or stored c [])) (range_with_len 0 i)
-
-abbrev pub next_stored_taints : Netlist → List Word → List Word → (ℕ → Bool) → (ℕ → Bool) → ℕ → List Word
-next_stored_taints n stored stored_taints v t i = map (λ c. taint_stored_by (role_at n c) (cell_at n c) v t (get_or stored c []) (get_or stored_taints c [])) (range_with_len 0 i)
-
-abbrev pub next_flags : Netlist → List Bool → (ℕ → Bool) → (ℕ → Bool) → ℕ → List Bool
-next_flags n flags v t i = map (λ c. flag_by (role_at n c) (cell_at n c) v t (get_or flags c false)) (range_with_len 0 i)
+-- after a cycle with these values and taints of the net bits cell c stores what it then stores next, and no other cell moved;
+-- the mark of c says whether it may store something else than before
+pub record MovesCell (n : Netlist) (before after : Given) (values taints marks new_marks : List Bool) (c : ℕ) : Type 0 where
+  pub follows : Follows n before after values taints c
+  pub kept : bit new_marks c ≡ false → KeepsAt before after c
+  pub others : (d : ℕ) → d ≢ c → KeepsAt before after d
+  pub other_marks : (d : ℕ) → d ≢ c → bit new_marks d ≡ bit marks d

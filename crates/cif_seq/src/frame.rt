@@ -6,6 +6,7 @@ ghost use Rattle.cif_defs.specs.Words.{bit};
 ghost use Rattle.cif_defs.specs.Run.{state, value};
 ghost use Rattle.cif_defs.specs.TaintRun.{taint, taint_state, state_value, state_taint};
 ghost use Rattle.cif_seq.specs.Cases.{frame_of, net_of};
+ghost use Rattle.cif_seq.specs.FrameView.{HoldsFrame};
 ghost use Rattle.cif_seq.specs.GivenAt.{given_at};
 ghost use Rattle.cif_seq.specs.Inputs.{StandsAt};
 ghost use Rattle.cif_seq.specs.Stored.{given_of};
@@ -15,7 +16,7 @@ ghost use Rattle.cif_defs.specs.Accepted.{netlist_of};
 use crate::case::Case;
 use crate::inputs::{first_inputs, next_inputs};
 use crate::settle::{NetBits, settled, state_bit};
-use crate::state::{next_words, start_words};
+use crate::state::{move_cells, shared, start_words};
 use cif_bits::NoMemory;
 use cif_cells::{NetBit, Netlist};
 use cif_cycle::{StoredWords, bit_of};
@@ -110,22 +111,44 @@ pub fn first_frame(alloc: Global, case: &Arc<Case>) -> Result<Frame, NoMemory>
     frame_with(alloc, case, 0, stored, inputs, begun)
 }
 
-/// The net bits of a cycle, with which the next one begins, and the marks of cells that store something else in it.
-fn bits_again(
+/// The frame after the one of a cycle, made of what that one held: its stored words are moved on, and of its net bits only
+/// what changes is worked out.
+fn frame_after(
     alloc: Global,
-    values: &[bool],
-    taints: &[bool],
-    marks: Vec<bool>,
-) -> Result<NetBits, AllocError>
-    ensures values { IfOk result (λ o. o.values.items ≡ values.now) }
-    ensures taints { IfOk result (λ o. o.taints.items ≡ taints.now) }
-    ensures marks { IfOk result (λ o. o.marks.items ≡ marks.items) }
+    case: &Arc<Case>,
+    cycle: u64,
+    stored: StoredWords,
+    inputs: &Inputs,
+    bits: NetBits,
+) -> Result<Frame, NoMemory>
+    requires next { cycle + 1 < case.now.value.stimulus.cycles }
+    requires holds { HoldsFrame case.now.value cycle bits.values.items bits.taints.items
+        stored.values.items stored.taints.items stored.flags.items bits.marks.items inputs.now }
+    ensures { IfOk result (λ f. f ≡ frame_of case.now.value (cycle + 1)) }
 {
-    Ok(NetBits {
-        values: Vec::from_slice(alloc, values)?,
-        taints: Vec::from_slice(alloc, taints)?,
+    let _cycles = case.cycles();
+    let _levels = case.levels();
+    let NetBits {
+        values,
+        taints,
+        mut marks,
+    } = bits;
+    let mut stored = stored;
+    move_cells(
+        alloc,
+        case.netlist(),
+        &values,
+        &taints,
+        &mut stored,
+        &mut marks,
+    )?;
+    let inputs = next_inputs(alloc, case, inputs)?;
+    let begun = NetBits {
+        values,
+        taints,
         marks,
-    })
+    };
+    frame_with(alloc, case, cycle + 1, stored, inputs, begun)
 }
 
 /// The frame after a frame. It begins with the net bits of that frame, and works out only what changes.
@@ -133,20 +156,36 @@ pub fn next_frame(alloc: Global, frame: &Frame) -> Result<Frame, NoMemory>
     requires { frame.now.cycle + 1 < frame.now.case.stimulus.cycles }
     ensures { IfOk result (λ f. f ≡ frame_of frame.now.case (frame.now.cycle + 1)) }
 {
-    let case = &frame.case;
-    let _cycles = case.cycles();
-    let _levels = case.levels();
-    let next = next_words(
-        alloc,
-        case.netlist(),
-        &frame.values,
-        &frame.taints,
-        &frame.stored,
-        &frame.due,
-    )?;
-    let inputs = next_inputs(alloc, case, &frame.inputs)?;
-    let begun = bits_again(alloc, &frame.values, &frame.taints, next.moved)?;
-    frame_with(alloc, case, frame.cycle + 1, next.stored, inputs, begun)
+    let stored = shared(alloc, &frame.stored)?;
+    let bits = NetBits {
+        values: Vec::from_slice(alloc, &frame.values)?,
+        taints: Vec::from_slice(alloc, &frame.taints)?,
+        marks: Vec::from_slice(alloc, &frame.due)?,
+    };
+    frame_after(alloc, &frame.case, frame.cycle, stored, &frame.inputs, bits)
+}
+
+/// The frame after a frame that nobody else needs: it takes that frame's own words and bits, so that what doesn't change
+/// isn't even copied.
+pub fn following_frame(alloc: Global, frame: Frame) -> Result<Frame, NoMemory>
+    requires { frame.cycle + 1 < frame.case.stimulus.cycles }
+    ensures { IfOk result (λ f. f ≡ frame_of frame.case (frame.cycle + 1)) }
+{
+    let Frame {
+        case,
+        cycle,
+        values,
+        taints,
+        stored,
+        inputs,
+        due,
+    } = frame;
+    let bits = NetBits {
+        values,
+        taints,
+        marks: due,
+    };
+    frame_after(alloc, &case, cycle, stored, &inputs, bits)
 }
 
 impl Frame {

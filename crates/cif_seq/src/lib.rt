@@ -2,8 +2,12 @@
 #![tactic(auto)]
 
 mod case;
+mod combinational;
 mod frame;
 mod inputs;
+mod memory;
+mod register;
+mod roles;
 mod settle;
 mod sources;
 mod state;
@@ -11,4 +15,4 @@ mod write;
 
 pub use case::Case;
 pub use cif_rules::taint_of;
-pub use frame::{Frame, first_frame, next_frame};
+pub use frame::{Frame, first_frame, following_frame, next_frame};

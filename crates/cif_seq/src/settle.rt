@@ -1,224 +1,30 @@
 // The settled net bits of a cycle: the sources are set, and then the marked cells are evaluated in a levelled order.
-ghost use Rattle.std.specs.Prelude.{◌≡◌, ◌+◌, ◌<◌, ◌≤◌, ℕ, Bool, List, true, false, length, IfOk, IsOk, if◌then◌else◌};
-ghost use Rattle.cif_defs.specs.Words.{Word, bit, word, operand};
+ghost use Rattle.std.specs.Prelude.{◌≡◌, ◌+◌, ◌<◌, ℕ, Bool, List, true, false, get_or, length, IfOk, IsOk, if◌then◌else◌};
+ghost use Rattle.cif_defs.specs.Words.{bit, word, operand};
 ghost use Rattle.cif_defs.specs.Accepted.{netlist_of};
-ghost use Rattle.cif_defs.specs.Netlist.{driver_of, role_at};
-ghost use Rattle.cif_defs.specs.Loop.{is_passing};
-ghost use Rattle.cif_defs.specs.Stimulus.{is_released};
-ghost use Rattle.cif_defs.specs.Run.{driver_value_at_depth_0, value_in, register_at_depth_0, input_value};
-ghost use Rattle.cif_defs.specs.TaintRun.{TaintState, driver_taint_at_depth_0, settled_taint, input_taint};
+ghost use Rattle.cif_defs.specs.Netlist.{driver_of};
+ghost use Rattle.cif_defs.specs.Run.{driver_value_at_depth_0, register_at_depth_0, input_value};
+ghost use Rattle.cif_defs.specs.TaintRun.{driver_taint_at_depth_0, input_taint};
 ghost use Rattle.cif_inputs.specs.Cursor.{cycle_of};
 ghost use Rattle.cif_readers.specs.Reads.{Notes};
 ghost use Rattle.cif_seq.specs.Cases.{net_of};
 ghost use Rattle.cif_seq.specs.Inputs.{StandsAt};
 ghost use Rattle.cif_seq.specs.Stored.{IsStored};
-ghost use Rattle.cif_shown.specs.Evaluates.{EvaluatesValues, EvaluatesTaints};
-ghost use Rattle.cif_shown.specs.Shown.{AreBegun, AreShown, AreSources, MayBegin, Shows};
+ghost use Rattle.cif_shown.specs.Shown.{AreBegun, AreShown, AreSources, MayBegin, Shows, is_open};
 ghost use Rattle.cif_seq.specs.GivenAt.{given_at, given_with};
 
 use crate::case::Case;
 use crate::inputs::input_pair;
+use crate::roles::evaluate_cell;
 use crate::sources::role_of_cell;
-use crate::write::{write_word, write_words};
 use cif_bits::NoMemory;
-use cif_cells::{Driver, Netlist, Role, meaning, table};
-use cif_cycle::{StateWord, StoredWords, bit_of, read_data, shown_words, taint_words, value_words};
+use cif_cells::{Driver, Netlist, Role};
+use cif_cycle::{StateWord, StoredWords, bit_of};
 use cif_inputs::Inputs;
 use cif_stimulus::Pair;
 use std::alloc::Global;
 
-// ---- cells
-
-/// Evaluates a combinational cell: writes its output words to `values` and their taints to `taints`.
-fn evaluate_combinational(
-    alloc: Global,
-    case: &Case,
-    number: u32,
-    values: &mut [bool],
-    taints: &mut [bool],
-    marks: &mut [bool],
-) -> Result<(), NoMemory>
-    requires inside { number < length (net_of case.now).cells }
-    requires role { role_at (net_of case.now) number ≡ Role.Combinational }
-    requires as_many_values { length values.old ≡ length (net_of case.now).drivers }
-    requires as_many_taints { length taints.old ≡ length (net_of case.now).drivers }
-    requires as_many_marks { length marks.old ≡ length (net_of case.now).cells }
-    ensures values { IsOk result → (stored : List Word)
-        → EvaluatesValues (net_of case.now) stored number values.old values.new }
-    ensures taints { IsOk result → (stored : List Word) (t : TaintState)
-        → EvaluatesTaints (net_of case.now) stored values.old t
-        (is_released case.now.stimulus.lines) number taints.old taints.new }
-    ensures notes { IsOk result → Notes (net_of case.now) values.old taints.old values.new taints.new marks.old marks.new }
-    ensures values_length { length values.new ≡ length values.old }
-    ensures taints_length { length taints.new ≡ length taints.old }
-    ensures marks_length { length marks.new ≡ length marks.old }
-{
-    let cell = case.cell(number);
-    let operand_values = value_words(alloc, values, cell)?;
-    let operand_taints = taint_words(alloc, taints, cell)?;
-    let words = meaning(alloc, cell, &operand_values)?;
-    let rule = case.rule(number);
-    let word_taints = rule.taint_of(alloc, cell, &operand_values, &operand_taints)?;
-    let readers = case.readers();
-    let released = case.released();
-    write_words(
-        readers,
-        released,
-        cell.outputs(),
-        &words,
-        &word_taints,
-        values,
-        taints,
-        marks,
-    );
-    Ok(())
-}
-
-/// Evaluates a register with asynchronous reset: writes the word that it shows to `values` and its taint to `taints`.
-fn evaluate_register(
-    alloc: Global,
-    case: &Case,
-    number: u32,
-    stored: &StoredWords,
-    values: &mut [bool],
-    taints: &mut [bool],
-    marks: &mut [bool],
-) -> Result<(), NoMemory>
-    requires inside { number < length (net_of case.now).cells }
-    requires role { role_at (net_of case.now) number ≡ Role.ResetRegister }
-    requires stored { IsStored (net_of case.now) stored.now.values.items stored.now.taints.items stored.now.flags.items }
-    requires as_many_values { length values.old ≡ length (net_of case.now).drivers }
-    requires as_many_taints { length taints.old ≡ length (net_of case.now).drivers }
-    requires as_many_marks { length marks.old ≡ length (net_of case.now).cells }
-    ensures values { IsOk result
-        → EvaluatesValues (net_of case.now) stored.now.values.items number values.old values.new }
-    ensures taints { IsOk result
-        → EvaluatesTaints (net_of case.now) stored.now.values.items values.old
-        (record { stored = stored.now.taints.items; flags = stored.now.flags.items })
-        (is_released case.now.stimulus.lines) number taints.old taints.new }
-    ensures notes { IsOk result → Notes (net_of case.now) values.old taints.old values.new taints.new marks.old marks.new }
-    ensures values_length { length values.new ≡ length values.old }
-    ensures taints_length { length taints.new ≡ length taints.old }
-    ensures marks_length { length marks.new ≡ length marks.old }
-{
-    let cell = case.cell(number);
-    let stored_value = &stored.values[number as usize];
-    let stored_taint = &stored.taints[number as usize];
-    let shown = shown_words(alloc, cell, values, taints, stored_value, stored_taint)?;
-    let readers = case.readers();
-    let released = case.released();
-    let word = shown.value.bits();
-    let taint = shown.taint.bits();
-    write_word(
-        readers,
-        released,
-        cell.output(0),
-        word,
-        taint,
-        values,
-        taints,
-        marks,
-    );
-    Ok(())
-}
-
-/// Evaluates a memory: writes the words of its read ports to `values` and their taints to `taints`.
-fn evaluate_memory(
-    alloc: Global,
-    case: &Case,
-    number: u32,
-    stored: &StoredWords,
-    values: &mut [bool],
-    taints: &mut [bool],
-    marks: &mut [bool],
-) -> Result<(), NoMemory>
-    requires inside { number < length (net_of case.now).cells }
-    requires role { role_at (net_of case.now) number ≡ Role.MemoryBlock }
-    requires stored { IsStored (net_of case.now) stored.now.values.items stored.now.taints.items stored.now.flags.items }
-    requires as_many_values { length values.old ≡ length (net_of case.now).drivers }
-    requires as_many_taints { length taints.old ≡ length (net_of case.now).drivers }
-    requires as_many_marks { length marks.old ≡ length (net_of case.now).cells }
-    ensures values { IsOk result
-        → EvaluatesValues (net_of case.now) stored.now.values.items number values.old values.new }
-    ensures taints { IsOk result
-        → EvaluatesTaints (net_of case.now) stored.now.values.items values.old
-        (record { stored = stored.now.taints.items; flags = stored.now.flags.items })
-        (is_released case.now.stimulus.lines) number taints.old taints.new }
-    ensures notes { IsOk result → Notes (net_of case.now) values.old taints.old values.new taints.new marks.old marks.new }
-    ensures values_length { length values.new ≡ length values.old }
-    ensures taints_length { length taints.new ≡ length taints.old }
-    ensures marks_length { length marks.new ≡ length marks.old }
-{
-    let cell = case.cell(number);
-    let stored_value = &stored.values[number as usize];
-    let stored_taint = &stored.taints[number as usize];
-    let flag = stored.flags[number as usize];
-    let read = read_data(
-        alloc,
-        cell,
-        values,
-        taints,
-        stored_value,
-        stored_taint,
-        flag,
-    )?;
-    let readers = case.readers();
-    let released = case.released();
-    write_word(
-        readers,
-        released,
-        cell.output(0),
-        &read.value,
-        &read.taint,
-        values,
-        taints,
-        marks,
-    );
-    Ok(())
-}
-
-/// Evaluates a passing cell: writes what it gives to `values` and the taint of it to `taints`. A register without
-/// asynchronous reset isn't passing: what it shows stands there from the start.
-fn evaluate_cell(
-    alloc: Global,
-    case: &Case,
-    number: u32,
-    stored: &StoredWords,
-    values: &mut [bool],
-    taints: &mut [bool],
-    marks: &mut [bool],
-) -> Result<(), NoMemory>
-    requires inside { number < length (net_of case.now).cells }
-    requires passing { is_passing (role_at (net_of case.now) number) ≡ true }
-    requires stored { IsStored (net_of case.now) stored.now.values.items stored.now.taints.items stored.now.flags.items }
-    requires as_many_values { length values.old ≡ length (net_of case.now).drivers }
-    requires as_many_taints { length taints.old ≡ length (net_of case.now).drivers }
-    requires as_many_marks { length marks.old ≡ length (net_of case.now).cells }
-    ensures values { IsOk result
-        → EvaluatesValues (net_of case.now) stored.now.values.items number values.old values.new }
-    ensures taints { IsOk result
-        → EvaluatesTaints (net_of case.now) stored.now.values.items values.old
-        (record { stored = stored.now.taints.items; flags = stored.now.flags.items })
-        (is_released case.now.stimulus.lines) number taints.old taints.new }
-    ensures notes { IsOk result → Notes (net_of case.now) values.old taints.old values.new taints.new marks.old marks.new }
-    ensures values_length { length values.new ≡ length values.old }
-    ensures taints_length { length taints.new ≡ length taints.old }
-    ensures marks_length { length marks.new ≡ length marks.old }
-{
-    let kind = case.cell(number).kind();
-    match table::role(kind) {
-        Role::Combinational => Ok(evaluate_combinational(
-            alloc, case, number, values, taints, marks,
-        )?),
-        Role::ResetRegister => Ok(evaluate_register(
-            alloc, case, number, stored, values, taints, marks,
-        )?),
-        Role::MemoryBlock => Ok(evaluate_memory(
-            alloc, case, number, stored, values, taints, marks,
-        )?),
-        Role::PlainRegister | Role::CarriedOver => unreachable!(),
-    }
-}
+// ---- marked cells
 
 /// Evaluates the cell at a place of the order, where it is marked.
 fn evaluate_place(
@@ -337,8 +143,56 @@ fn start_pair(case: &Case, stored: &StoredWords, inputs: &Inputs, net: u32) -> P
     }
 }
 
-/// Sets the net bits of the input ports and of registers without asynchronous reset; each cell that reads a bit that
-/// changes is marked.
+/// Whether a net bit may be given something else than in the cycle before: it is of an input port, or of a register that
+/// is marked.
+fn is_open(netlist: &Netlist, marks: &[bool], net: u32) -> bool
+    requires inside { net < length (netlist_of netlist.now).drivers }
+    ensures { result ≡ is_open (netlist_of netlist.now) marks.now net }
+{
+    match netlist.driver(net) {
+        Driver::Input { .. } => true,
+        Driver::Register { cell, .. } => bit_of(marks, cell as usize),
+        Driver::Output { .. } | Driver::Read { .. } | Driver::Clock => false,
+    }
+}
+
+/// Sets one of the sources, where it may have changed; each cell that reads a bit that changes is marked.
+fn set_source(
+    case: &Case,
+    stored: &StoredWords,
+    inputs: &Inputs,
+    net: u32,
+    values: &mut [bool],
+    taints: &mut [bool],
+    marks: &mut [bool],
+)
+    requires inside { net < length (net_of case.now).drivers }
+    requires at { StandsAt (net_of case.now) case.now.stimulus (cycle_of inputs.now) inputs.now }
+    requires as_many_values { length values.old ≡ length (net_of case.now).drivers }
+    requires as_many_taints { length taints.old ≡ length (net_of case.now).drivers }
+    requires as_many_marks { length marks.old ≡ length (net_of case.now).cells }
+    ensures shown { (sources : List ℕ) (i : ℕ) → AreSources (net_of case.now) sources → i < length sources
+        → net ≡ get_or sources i 0
+        → AreBegun (net_of case.now) (given_at case.now stored.now inputs.now) case.now.order sources i marks.old values.old taints.old
+        → AreBegun (net_of case.now) (given_at case.now stored.now inputs.now) case.now.order sources (i + 1) marks.new values.new taints.new }
+    ensures notes { Notes (net_of case.now) values.old taints.old values.new taints.new marks.old marks.new }
+    ensures values_length { length values.new ≡ length values.old }
+    ensures taints_length { length taints.new ≡ length taints.old }
+    ensures marks_length { length marks.new ≡ length marks.old }
+{
+    let _levels = case.levels();
+    if !is_open(case.netlist(), marks, net) {
+        return;
+    }
+    let released = case.released();
+    let pair = start_pair(case, stored, inputs, net);
+    let taint = !bit_of(released, net as usize) & pair.taint;
+    case.readers()
+        .set_bit(net, pair.value, taint, values, taints, marks);
+}
+
+/// Sets the net bits of the input ports and of registers without asynchronous reset that may have changed; each cell that
+/// reads a bit that changes is marked.
 fn set_sources(
     case: &Case,
     stored: &StoredWords,
@@ -358,15 +212,10 @@ fn set_sources(
     ensures taints_length { length taints.new ≡ length taints.old }
     ensures marks_length { length marks.new ≡ length marks.old }
 {
-    let _levels = case.levels();
     let sources = case.sources();
-    let released = case.released();
     for place in 0..sources.len() {
         let net = sources[place];
-        let pair = start_pair(case, stored, inputs, net);
-        let taint = !bit_of(released, net as usize) & pair.taint;
-        case.readers()
-            .set_bit(net, pair.value, taint, values, taints, marks);
+        set_source(case, stored, inputs, net, values, taints, marks);
     }
 }
 

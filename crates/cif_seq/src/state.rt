@@ -1,76 +1,20 @@
 // What all cells store: at the start, and after each cycle.
-ghost use Rattle.std.specs.Prelude.{◌≡◌, ◌<◌, true, false, length, [], IfOk};
+ghost use Rattle.std.specs.Prelude.{◌≡◌, ◌<◌, true, false, length, IfOk, OnOk};
 ghost use Rattle.cif_defs.specs.Words.{bit};
 ghost use Rattle.cif_defs.specs.Accepted.{netlist_of};
-ghost use Rattle.cif_defs.specs.Cells.{state_bits};
-ghost use Rattle.cif_defs.specs.Netlist.{cell_at, role_at};
-ghost use Rattle.cif_defs.specs.Stimulus.{start_at};
-ghost use Rattle.cif_defs.specs.Run.{next_stored, state, stored_by};
-ghost use Rattle.cif_defs.specs.TaintRun.{flag_by, next_taints, taint_state, taint_stored_by};
-ghost use Rattle.cif_starts.specs.Starts.{IsTableOf};
+ghost use Rattle.cif_defs.specs.Run.{next_stored, state};
+ghost use Rattle.cif_defs.specs.TaintRun.{next_taints, taint_state};
 ghost use Rattle.cif_seq.specs.Stored.{IsStored, given_of};
-ghost use Rattle.cif_shown.specs.Shown.{AreKept, AreResting};
+ghost use Rattle.cif_shown.specs.Shown.{AreKept, AreResting, Rests};
+ghost use Rattle.cif_seq.specs.States.{MovesCell};
 
+use crate::roles::{next_state, start_state};
 use cif_bits::NoMemory;
-use cif_cells::{Netlist, Role, table};
-use cif_cycle::{
-    CellState, StateRef, StateWord, StoredWords, bit_of, next_memory, next_register, taint_words,
-    value_words,
-};
-use cif_starts::{StartLines, start_word};
+use cif_cells::{Netlist, table};
+use cif_cycle::{CellState, StateRef, StateWord, StoredWords, bit_of};
+use cif_starts::StartLines;
 use cif_stimulus::Stimulus;
 use std::alloc::Global;
-
-/// What a cell without state stores: words of no bits, and this flag.
-fn no_state(alloc: Global, flag: bool) -> CellState
-    ensures value { result.value ≡ [] }
-    ensures taint { result.taint ≡ [] }
-    ensures flag { result.flag ≡ flag }
-{
-    CellState {
-        value: StateWord::of(Vec::new(alloc)),
-        taint: StateWord::of(Vec::new(alloc)),
-        flag,
-    }
-}
-
-/// What a cell starts with, by the table of the stimulus's lines.
-fn start_state(
-    alloc: Global,
-    netlist: &Netlist,
-    stimulus: &Stimulus,
-    table: &StartLines,
-    number: u32,
-) -> Result<CellState, NoMemory>
-    requires number { number < length (netlist_of netlist.now).cells }
-    requires table { IsTableOf (netlist_of netlist.now) stimulus.now table.now }
-    ensures value { IfOk result
-        (λ s. s.value ≡ (start_at (netlist_of netlist.now) stimulus.now number).value) }
-    ensures taint { IfOk result
-        (λ s. s.taint ≡ (start_at (netlist_of netlist.now) stimulus.now number).taint) }
-    ensures flag { IfOk result (λ s. s.flag ≡ false) }
-{
-    let cell = &netlist.cells()[number as usize];
-    match table::role(cell.kind()) {
-        Role::PlainRegister | Role::ResetRegister => {
-            let start = start_word(alloc, netlist, stimulus, table, number)?;
-            Ok(CellState {
-                value: StateWord::of(start.value),
-                taint: StateWord::of(start.taint),
-                flag: false,
-            })
-        }
-        Role::MemoryBlock => {
-            let start = start_word(alloc, netlist, stimulus, table, number)?;
-            Ok(CellState {
-                value: StateWord::paged(alloc, &start.value)?,
-                taint: StateWord::paged(alloc, &start.taint)?,
-                flag: false,
-            })
-        }
-        Role::Combinational | Role::CarriedOver => Ok(no_state(alloc, false)),
-    }
-}
 
 /// What all cells start with. It passes each line once for a cell that it names.
 pub fn start_words(
@@ -105,44 +49,6 @@ pub fn start_words(
     })
 }
 
-/// What a cell stores next, where `values` and `taints` are those of the net bits, and `prior` is what it stores.
-fn next_state(
-    alloc: Global,
-    netlist: &Netlist,
-    number: u32,
-    values: &[bool],
-    taints: &[bool],
-    prior: StateRef,
-) -> Result<CellState, NoMemory>
-    requires number { number < length (netlist_of netlist.now).cells }
-    requires value { length prior.value.now ≡ state_bits (cell_at (netlist_of netlist.now) number) }
-    requires taint { length prior.taint.now ≡ state_bits (cell_at (netlist_of netlist.now) number) }
-    ensures value { IfOk result (λ s. s.value ≡ stored_by
-        (role_at (netlist_of netlist.now) number) (cell_at (netlist_of netlist.now) number)
-        (bit values.now) prior.entry.value.now) }
-    ensures taint { IfOk result (λ s. s.taint ≡ taint_stored_by
-        (role_at (netlist_of netlist.now) number) (cell_at (netlist_of netlist.now) number)
-        (bit values.now) (bit taints.now) prior.entry.value.now prior.entry.taint.now) }
-    ensures flag { IfOk result (λ s. s.flag ≡ flag_by
-        (role_at (netlist_of netlist.now) number) (cell_at (netlist_of netlist.now) number)
-        (bit values.now) (bit taints.now) prior.entry.flag) }
-{
-    let cell = &netlist.cells()[number as usize];
-    match table::role(cell.kind()) {
-        Role::PlainRegister | Role::ResetRegister => {
-            let operands = value_words(alloc, values, cell)?;
-            let operand_taints = taint_words(alloc, taints, cell)?;
-            next_register(alloc, cell, operands, operand_taints, prior)
-        }
-        Role::MemoryBlock => {
-            let operands = value_words(alloc, values, cell)?;
-            let operand_taints = taint_words(alloc, taints, cell)?;
-            next_memory(alloc, cell, &operands, &operand_taints, prior)
-        }
-        Role::Combinational | Role::CarriedOver => Ok(no_state(alloc, prior.flag)),
-    }
-}
-
 /// Whether a cell is known to store the same as before. Words of memories are not compared.
 fn is_known_same(next: &CellState, prior: StateRef) -> bool
     ensures value { result ≡ true → next.now.value ≡ prior.entry.value.now }
@@ -154,142 +60,102 @@ fn is_known_same(next: &CellState, prior: StateRef) -> bool
         && next.taint.is_known_same(prior.taint)
 }
 
-/// What a cell stores next, and whether it may be something else than before.
-#[derive(Drop)]
-struct NextState {
-    value: StateWord,
-    taint: StateWord,
-    flag: bool,
-    moved: bool,
-}
-
-/// What a cell that rests stores next: what it stores.
-fn kept_state(alloc: Global, prior: StateRef) -> Result<NextState, NoMemory>
-    ensures value { IfOk result (λ s. s.value ≡ prior.entry.value.now) }
-    ensures taint { IfOk result (λ s. s.taint ≡ prior.entry.taint.now) }
-    ensures flag { IfOk result (λ s. s.flag ≡ prior.entry.flag) }
-{
-    let value = prior.value.share(alloc)?;
-    let taint = prior.taint.share(alloc)?;
-    Ok(NextState {
-        value,
-        taint,
-        flag: prior.flag,
-        moved: false,
-    })
-}
-
-/// What a cell stores next, where it is worked out only if it is due: one that isn't due rests.
-fn moved_state(
+/// Writes what a cell stores next over what it stores, where the cell is marked; one that isn't marked rests. The mark then
+/// says whether it may store something else than before.
+fn move_cell(
     alloc: Global,
     netlist: &Netlist,
     number: u32,
     values: &[bool],
     taints: &[bool],
-    prior: StateRef,
-    is_due: bool,
-) -> Result<NextState, NoMemory>
+    stored: &mut StoredWords,
+    marks: &mut [bool],
+) -> Result<(), NoMemory>
     requires number { number < length (netlist_of netlist.now).cells }
-    requires value { length prior.value.now ≡ state_bits (cell_at (netlist_of netlist.now) number) }
-    requires taint { length prior.taint.now ≡ state_bits (cell_at (netlist_of netlist.now) number) }
-    requires rests_value { is_due ≡ false → stored_by
-        (role_at (netlist_of netlist.now) number) (cell_at (netlist_of netlist.now) number)
-        (bit values.now) prior.value.now ≡ prior.value.now }
-    requires rests_taint { is_due ≡ false → taint_stored_by
-        (role_at (netlist_of netlist.now) number) (cell_at (netlist_of netlist.now) number)
-        (bit values.now) (bit taints.now) prior.value.now prior.taint.now ≡ prior.taint.now }
-    requires rests_flag { is_due ≡ false → flag_by
-        (role_at (netlist_of netlist.now) number) (cell_at (netlist_of netlist.now) number)
-        (bit values.now) (bit taints.now) prior.flag ≡ prior.flag }
-    ensures value { IfOk result (λ s. s.value ≡ stored_by
-        (role_at (netlist_of netlist.now) number) (cell_at (netlist_of netlist.now) number)
-        (bit values.now) prior.entry.value.now) }
-    ensures taint { IfOk result (λ s. s.taint ≡ taint_stored_by
-        (role_at (netlist_of netlist.now) number) (cell_at (netlist_of netlist.now) number)
-        (bit values.now) (bit taints.now) prior.entry.value.now prior.entry.taint.now) }
-    ensures flag { IfOk result (λ s. s.flag ≡ flag_by
-        (role_at (netlist_of netlist.now) number) (cell_at (netlist_of netlist.now) number)
-        (bit values.now) (bit taints.now) prior.entry.flag) }
-    ensures kept_value { IfOk result (λ s. s.moved ≡ false → s.value ≡ prior.entry.value.now) }
-    ensures kept_taint { IfOk result (λ s. s.moved ≡ false → s.taint ≡ prior.entry.taint.now) }
-    ensures kept_flag { IfOk result (λ s. s.moved ≡ false → s.flag ≡ prior.entry.flag) }
+    requires stored { IsStored (netlist_of netlist.now)
+        stored.old.values.items stored.old.taints.items stored.old.flags.items }
+    requires as_many { length marks.old ≡ length (netlist_of netlist.now).cells }
+    requires rests { bit marks.old number ≡ false
+        → Rests (netlist_of netlist.now) (given_of stored.old) values.now taints.now number }
+    ensures moves { OnOk result (MovesCell (netlist_of netlist.now) (given_of stored.old) (given_of stored.new)
+        values.now taints.now marks.old marks.new number) }
+    ensures stored { OnOk result (IsStored (netlist_of netlist.now)
+        stored.new.values.items stored.new.taints.items stored.new.flags.items) }
+    ensures as_many { length marks.new ≡ length marks.old }
 {
-    if !is_due {
-        return kept_state(alloc, prior);
+    let place = number as usize;
+    if !bit_of(marks, place) {
+        return Ok(());
     }
-    let state = next_state(alloc, netlist, number, values, taints, prior)?;
-    let moved = !is_known_same(&state, prior);
-    Ok(NextState {
-        value: state.value,
-        taint: state.taint,
-        flag: state.flag,
-        moved,
-    })
+    let prior = StateRef {
+        value: &stored.values[place],
+        taint: &stored.taints[place],
+        flag: stored.flags[place],
+    };
+    let next = next_state(alloc, netlist, number, values, taints, prior)?;
+    marks[place] = !is_known_same(&next, prior);
+    stored.values[place] = next.value;
+    stored.taints[place] = next.taint;
+    stored.flags[place] = next.flag;
+    Ok(())
 }
 
-/// What all cells store in a cycle, and which may store something else than in the cycle before.
-#[derive(Drop)]
-pub struct NextWords {
-    /// What they store.
-    pub stored: StoredWords,
-    /// For each cell whether it may store something else than before.
-    pub moved: Vec<bool>,
-}
-
-/// What all cells store next, where `values` and `taints` are those of the net bits, and `prior` is what the cells store.
-/// A cell that isn't due rests: it stores what it stored. One without state costs no more than its empty words, and a
-/// memory its ports.
-pub fn next_words(
+/// Writes what all cells store next over what they store, where `values` and `taints` are those of the net bits. A cell
+/// that isn't marked rests, and costs nothing but the look at its mark. The marks then say which cells may store something
+/// else than before.
+pub fn move_cells(
     alloc: Global,
     netlist: &Netlist,
     values: &[bool],
     taints: &[bool],
-    prior: &StoredWords,
-    due: &[bool],
-) -> Result<NextWords, NoMemory>
+    stored: &mut StoredWords,
+    marks: &mut [bool],
+) -> Result<(), NoMemory>
     requires stored { IsStored (netlist_of netlist.now)
-        prior.now.values.items prior.now.taints.items prior.now.flags.items }
-    requires resting { AreResting (netlist_of netlist.now) (given_of prior.now) values.now taints.now due.now }
-    ensures values { IfOk result (λ w. w.stored.values.items
-        ≡ next_stored (netlist_of netlist.now) prior.now.values.items (bit values.now)) }
-    ensures taints { IfOk result (λ w. w.stored.taints.items
-        ≡ (next_taints (netlist_of netlist.now) prior.now.values.items (bit values.now)
-        (record { stored = prior.now.taints.items; flags = prior.now.flags.items })
+        stored.old.values.items stored.old.taints.items stored.old.flags.items }
+    requires as_many { length marks.old ≡ length (netlist_of netlist.now).cells }
+    requires resting { AreResting (netlist_of netlist.now) (given_of stored.old) values.now taints.now marks.old }
+    ensures values { OnOk result (stored.new.values.items
+        ≡ next_stored (netlist_of netlist.now) stored.old.values.items (bit values.now)) }
+    ensures taints { OnOk result (stored.new.taints.items
+        ≡ (next_taints (netlist_of netlist.now) stored.old.values.items (bit values.now)
+        (record { stored = stored.old.taints.items; flags = stored.old.flags.items })
         (bit taints.now)).stored) }
-    ensures flags { IfOk result (λ w. w.stored.flags.items
-        ≡ (next_taints (netlist_of netlist.now) prior.now.values.items (bit values.now)
-        (record { stored = prior.now.taints.items; flags = prior.now.flags.items })
+    ensures flags { OnOk result (stored.new.flags.items
+        ≡ (next_taints (netlist_of netlist.now) stored.old.values.items (bit values.now)
+        (record { stored = stored.old.taints.items; flags = stored.old.flags.items })
         (bit taints.now)).flags) }
-    ensures stored { IfOk result (λ w. IsStored (netlist_of netlist.now)
-        w.stored.values.items w.stored.taints.items w.stored.flags.items) }
-    ensures as_many { IfOk result (λ w. length w.moved.items ≡ length (netlist_of netlist.now).cells) }
-    ensures kept { IfOk result (λ w. AreKept (given_of prior.now) (given_of w.stored) w.moved.items) }
+    ensures kept { OnOk result (AreKept (given_of stored.old) (given_of stored.new) marks.new) }
+    ensures as_many { length marks.new ≡ length marks.old }
 {
     let count = netlist.cells().len() as u32;
-    let mut next_values = Vec::with_capacity(alloc, count as usize)?;
-    let mut next_taints = Vec::with_capacity(alloc, count as usize)?;
-    let mut next_flags = Vec::with_capacity(alloc, count as usize)?;
-    let mut moved = Vec::with_capacity(alloc, count as usize)?;
     for number in 0..count {
-        let place = number as usize;
-        let held = StateRef {
-            value: &prior.values[place],
-            taint: &prior.taints[place],
-            flag: prior.flags[place],
-        };
-        let is_due = bit_of(due, place);
-        let next = moved_state(alloc, netlist, number, values, taints, held, is_due)?;
-        next_values.push(next.value)?;
-        next_taints.push(next.taint)?;
-        next_flags.push(next.flag)?;
-        moved.push(next.moved)?;
+        move_cell(alloc, netlist, number, values, taints, stored, marks)?;
     }
-    Ok(NextWords {
-        stored: StoredWords {
-            values: next_values,
-            taints: next_taints,
-            flags: next_flags,
-        },
-        moved,
+    Ok(())
+}
+
+/// Other words of the same bits. Those of memories share all their pages.
+fn shared_words(alloc: Global, words: &[StateWord]) -> Result<Vec<StateWord>, NoMemory>
+    ensures { IfOk result (λ ws. ws.items ≡ words.now) }
+{
+    let mut shared = Vec::with_capacity(alloc, words.len())?;
+    for i in 0..words.len() {
+        let word = &words[i];
+        shared.push(word.share(alloc)?)?;
+    }
+    Ok(shared)
+}
+
+/// The same stored words once more. Those of memories share all their pages.
+pub fn shared(alloc: Global, stored: &StoredWords) -> Result<StoredWords, NoMemory>
+    ensures values { IfOk result (λ s. s.values.items ≡ stored.now.values.items) }
+    ensures taints { IfOk result (λ s. s.taints.items ≡ stored.now.taints.items) }
+    ensures flags { IfOk result (λ s. s.flags.items ≡ stored.now.flags.items) }
+{
+    Ok(StoredWords {
+        values: shared_words(alloc, &stored.values)?,
+        taints: shared_words(alloc, &stored.taints)?,
+        flags: Vec::from_slice(alloc, &stored.flags)?,
     })
 }

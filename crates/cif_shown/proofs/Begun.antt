@@ -5,8 +5,9 @@ use Rattle.std.proofs.lemmas.Bool.Decides.{nat_tests}
 use Rattle.cif_defs.specs.Words.{Word, bit}
 use Rattle.cif_defs.specs.Evaluation.{is_of_cell}
 use Rattle.cif_defs.specs.Loop.{IsLevelled, is_passing}
-use Rattle.cif_defs.specs.Netlist.{IsWired, Netlist, cell_at, driver_of, role_at}
-use Rattle.cif_defs.specs.Cells.{shape_of}
+use Rattle.cif_defs.specs.Netlist.{IsWired, Netlist, cell_at, driver_of, no_cell, role_at}
+use Rattle.cif_defs.specs.Cells.{Cell, shape_of}
+use Rattle.cif_defs.specs.Kinds.{role_of}
 use Rattle.cif_defs.specs.Memory.{read_address, read_taint, read_word}
 use Rattle.cif_defs.specs.Run.{driver_value, driver_value_at_depth_0, operand_words, register_bit}
 use Rattle.cif_defs.specs.TaintRun.{driver_taint, driver_taint_at_depth_0, operand_taints, register_taint}
@@ -17,8 +18,10 @@ use Rattle.cif_defs.specs.declared.nets.Driver.TheVariants.{Input, Output, Regis
 use Rattle.cif_defs.proofs.Levels.{driver_rank, given_at_0, register_rank}
 use Rattle.cif_defs.proofs.Orders.{has_place, in_range, place_in}
 use Rattle.cif_defs.proofs.TaintSettles.{taint_at_0}
+use Rattle.cif_defs.proofs.WordLaws.{le_or_lt}
+use Rattle.std.proofs.lemmas.List.{get_or_past}
 use Rattle.cif_readers.specs.Reads.{Notes}
-use Rattle.cif_shown.specs.Shown.{AreBegun, AreKept, AreShown, AreSources, Given, KeepsAt, MayBegin, Shows, StandsFrom, Waits, is_plain, is_source, is_source_by}
+use Rattle.cif_shown.specs.Shown.{AreBegun, AreKept, AreShown, AreSources, Given, IsToCome, KeepsAt, MayBegin, MayChange, Shows, StandsFrom, Waits, is_open, is_open_by, is_plain, is_source, is_source_by}
 use Rattle.cif_shown.proofs.Passes.{PassedStay, still_or_waits}
 
 -- ---- a source is set
@@ -56,9 +59,28 @@ nobody_passed n order values taints new_values new_taints = λ c q j x e l k h. 
 same_or_not : (i j : ℕ) → (i ≡ j) ⊎ (i ≢ j)
 same_or_not i j = search arith
 
+-- a source that isn't the one at a place stands after it
+stands_on : (sources : List ℕ) (i b z : ℕ) → get_or sources i 0 ≡ b → z ≢ b → StandsFrom sources i z → StandsFrom sources (i + 1) z
+stands_on sources i b z at d h = record {
+  place = h.place;
+  not_passed = elim (same_or_not h.place i) [
+    | inl e ↦ absurd (d (sym h.here ∙ ap (λ k. get_or sources k 0) e ∙ at))
+    | inr k ↦ (let l : i ≤ h.place = h.not_passed in search arith)
+  ];
+  inside = h.inside;
+  here = h.here;
+}
+
+open_kept : (marks new_marks : List Bool) (d : Driver) → ((c : ℕ) → bit marks c ≡ true → bit new_marks c ≡ true) → is_open_by marks d ≡ true → is_open_by new_marks d ≡ true
+open_kept marks new_marks (Input p i) k h = refl
+open_kept marks new_marks (Register c i) k h = k c h
+open_kept marks new_marks (Output c p i) k h = absurd (cc)
+open_kept marks new_marks (Read c p i) k h = absurd (cc)
+open_kept marks new_marks Clock k h = absurd (cc)
+
 set_other : (n : Netlist) (g : Given) (order sources : List ℕ) (i b z : ℕ) (x y : Bool) (values taints marks new_marks : List Bool) → IsWired n → IsLevelled n order → get_or sources i 0 ≡ b → z ≢ b
-    → Notes n values taints (slice_set values b x) (slice_set taints b y) marks new_marks → Shows n g values taints z ⊎ (Waits n order 0 marks z ⊎ StandsFrom sources i z)
-    → Shows n g (slice_set values b x) (slice_set taints b y) z ⊎ (Waits n order 0 new_marks z ⊎ StandsFrom sources (i + 1) z)
+    → Notes n values taints (slice_set values b x) (slice_set taints b y) marks new_marks → Shows n g values taints z ⊎ (Waits n order 0 marks z ⊎ IsToCome n sources i marks z)
+    → Shows n g (slice_set values b x) (slice_set taints b y) z ⊎ (Waits n order 0 new_marks z ⊎ IsToCome n sources (i + 1) new_marks z)
 set_other n g order sources i b z x y values taints marks new_marks w o at d m (inl h) =
     elim (still_or_waits n g order 0 z values taints (slice_set values b x) (slice_set taints b y) marks new_marks w o m (nobody_passed n order values taints (slice_set values b x) (slice_set taints b y))
     (get_or-set_other values b z x false d) (get_or-set_other taints b z y false d) h) [ inl k ↦ inl k | inr k ↦ inr (inl k) ]
@@ -70,13 +92,8 @@ set_other n g order sources i b z x y values taints marks new_marks w o at d m (
   marked = m.kept (get_or order h.place 0) h.marked;
 }))
 set_other n g order sources i b z x y values taints marks new_marks w o at d m (inr (inr h)) = inr (inr (record {
-  place = h.place;
-  not_passed = elim (same_or_not h.place i) [
-    | inl e ↦ absurd (d (sym h.here ∙ ap (λ k. get_or sources k 0) e ∙ at))
-    | inr k ↦ (let l : i ≤ h.place = h.not_passed in search arith)
-  ];
-  inside = h.inside;
-  here = h.here;
+  stands = stands_on sources i b z at d h.stands;
+  is_open = open_kept marks new_marks (driver_of n z) m.kept h.is_open;
 }))
 
 -- one more source is set
@@ -91,20 +108,34 @@ source_set n g order sources i b x y values taints marks new_marks w o s l at sv
   | inr d ↦ set_other n g order sources i b z x y values taints marks new_marks w o (sym at) d m (h z)
 ]
 
-begin_bit : (n : Netlist) (g : Given) (order sources : List ℕ) (b : ℕ) (values taints marks : List Bool) → AreSources n sources → Shows n g values taints b ⊎ (Waits n order 0 marks b ⊎ (is_source n b ≡ true))
-    → Shows n g values taints b ⊎ (Waits n order 0 marks b ⊎ StandsFrom sources 0 b)
+-- a source that can't change is passed over
+passed_bit : (n : Netlist) (g : Given) (order sources : List ℕ) (i b z : ℕ) (values taints marks : List Bool) → get_or sources i 0 ≡ b → is_open n marks b ≡ false → Shows n g values taints z ⊎ (Waits n order 0 marks z ⊎ IsToCome n sources i marks z)
+    → Shows n g values taints z ⊎ (Waits n order 0 marks z ⊎ IsToCome n sources (i + 1) marks z)
+passed_bit n g order sources i b z values taints marks at shut (inl h) = inl h
+passed_bit n g order sources i b z values taints marks at shut (inr (inl h)) = inr (inl h)
+passed_bit n g order sources i b z values taints marks at shut (inr (inr h)) = inr (inr (record {
+  stands = stands_on sources i b z at (λ e. let q : true ≡ false = sym h.is_open ∙ ap (is_open n marks) e ∙ shut in absurd (cc)) h.stands;
+  is_open = h.is_open;
+}))
+
+pub source_passed : (n : Netlist) (g : Given) (order sources : List ℕ) (i b : ℕ) (values taints marks : List Bool) → b ≡ get_or sources i 0 → is_open n marks b ≡ false → AreBegun n g order sources i marks values taints → AreBegun n g order sources (i + 1) marks values taints
+unfolding AreBegun
+source_passed n g order sources i b values taints marks at shut h = λ z. passed_bit n g order sources i b z values taints marks (sym at) shut (h z)
+
+begin_bit : (n : Netlist) (g : Given) (order sources : List ℕ) (b : ℕ) (values taints marks : List Bool) → AreSources n sources → Shows n g values taints b ⊎ (Waits n order 0 marks b ⊎ MayChange n marks b)
+    → Shows n g values taints b ⊎ (Waits n order 0 marks b ⊎ IsToCome n sources 0 marks b)
 begin_bit n g order sources b values taints marks s (inl h) = inl h
 begin_bit n g order sources b values taints marks s (inr (inl h)) = inr (inl h)
-begin_bit n g order sources b values taints marks s (inr (inr h)) = inr (inr (s.each b h))
+begin_bit n g order sources b values taints marks s (inr (inr h)) = inr (inr (record { stands = s.each b h.source; is_open = h.is_open }))
 
 pub sources_begun : (n : Netlist) (g : Given) (order sources : List ℕ) (values taints marks : List Bool) → AreSources n sources → MayBegin n g order marks values taints → AreBegun n g order sources 0 marks values taints
 unfolding AreBegun MayBegin
 sources_begun n g order sources values taints marks s h = λ b. begin_bit n g order sources b values taints marks s (h b)
 
-done_bit : (n : Netlist) (g : Given) (order sources : List ℕ) (i b : ℕ) (values taints marks : List Bool) → length sources ≤ i → Shows n g values taints b ⊎ (Waits n order 0 marks b ⊎ StandsFrom sources i b) → Shows n g values taints b ⊎ Waits n order 0 marks b
+done_bit : (n : Netlist) (g : Given) (order sources : List ℕ) (i b : ℕ) (values taints marks : List Bool) → length sources ≤ i → Shows n g values taints b ⊎ (Waits n order 0 marks b ⊎ IsToCome n sources i marks b) → Shows n g values taints b ⊎ Waits n order 0 marks b
 done_bit n g order sources i b values taints marks l (inl h) = inl h
 done_bit n g order sources i b values taints marks l (inr (inl h)) = inr h
-done_bit n g order sources i b values taints marks l (inr (inr h)) = absurd (let p : i ≤ h.place = h.not_passed in let q : h.place < length sources = h.inside in omega arith)
+done_bit n g order sources i b values taints marks l (inr (inr h)) = absurd (let p : i ≤ h.stands.place = h.stands.not_passed in let q : h.stands.place < length sources = h.stands.inside in omega arith)
 
 pub sources_done : (n : Netlist) (g : Given) (order sources : List ℕ) (i : ℕ) (values taints marks : List Bool) → length sources ≤ i → AreBegun n g order sources i marks values taints → AreShown n g order 0 marks values taints
 unfolding AreBegun AreShown
@@ -179,15 +210,35 @@ register_taint_again n before after c i values taints k =
     ap (λ (w : Word). register_taint (role_at n c) (cell_at n c) (bit values) (bit taints) w (get_or before.state.stored c []) i) (sym k.value)
     ∙ ap (λ (w : Word). register_taint (role_at n c) (cell_at n c) (bit values) (bit taints) (get_or after.stored c []) w i) (sym k.taint)
 
+plain_open : (n : Netlist) (b c i : ℕ) (marks : List Bool) → driver_of n b ≡ Register c i → role_at n c ≡ PlainRegister → bit marks c ≡ true → MayChange n marks b
+plain_open n b c i marks e f m = record {
+  source = ap (is_source_by n) e ∙ ap is_plain f;
+  is_open = ap (is_open_by marks) e ∙ m;
+}
+
+input_open : (n : Netlist) (b p i : ℕ) (marks : List Bool) → driver_of n b ≡ Input p i → MayChange n marks b
+input_open n b p i marks e = record {
+  source = ap (is_source_by n) e;
+  is_open = ap (is_open_by marks) e;
+}
+
 -- a bit of a passing cell: marked, it waits, and else it shows what it showed
 cell_again : (n : Netlist) (before after : Given) (order : List ℕ) (b c : ℕ) (d : Driver) (values taints marks : List Bool) (m : Bool) → IsLevelled n order → driver_of n b ≡ d → is_of_cell c d ≡ true → is_passing (role_at n c) ≡ true → bit marks c ≡ m
-    → (bit marks c ≡ false → Shows n after values taints b) → Shows n after values taints b ⊎ (Waits n order 0 marks b ⊎ (is_source n b ≡ true))
+    → (bit marks c ≡ false → Shows n after values taints b) → Shows n after values taints b ⊎ (Waits n order 0 marks b ⊎ MayChange n marks b)
 cell_again n before after order b c d values taints marks true o e is p f h = inr (inl (waits_at n order c b marks o p (ap (is_of_cell c) e ∙ is) f))
 cell_again n before after order b c d values taints marks false o e is p f h = inl (h f)
 
+-- a source of a register: marked, it may change, and else it shows what it showed
+plain_again : (n : Netlist) (before after : Given) (order : List ℕ) (b c i : ℕ) (values taints marks : List Bool) (m : Bool) → driver_of n b ≡ Register c i → role_at n c ≡ PlainRegister → bit marks c ≡ m
+    → (bit marks c ≡ false → Shows n after values taints b) → Shows n after values taints b ⊎ (Waits n order 0 marks b ⊎ MayChange n marks b)
+plain_again n before after order b c i values taints marks true e f m h = inr (inr (plain_open n b c i marks e f m))
+plain_again n before after order b c i values taints marks false e f m h = inl (h m)
+
 register_again : (n : Netlist) (before after : Given) (order : List ℕ) (b c i : ℕ) (values taints marks : List Bool) (role : Role) → IsWired n → IsLevelled n order → ((k : ℕ) → before.released k ≡ after.released k) → (bit marks c ≡ false → KeepsAt before after c)
-    → driver_of n b ≡ Register c i → role_at n c ≡ role → Shows n before values taints b → Shows n after values taints b ⊎ (Waits n order 0 marks b ⊎ (is_source n b ≡ true))
-register_again n before after order b c i values taints marks PlainRegister w o r k e f h = inr (inr (ap (is_source_by n) e ∙ ap is_plain f))
+    → driver_of n b ≡ Register c i → role_at n c ≡ role → Shows n before values taints b → Shows n after values taints b ⊎ (Waits n order 0 marks b ⊎ MayChange n marks b)
+register_again n before after order b c i values taints marks PlainRegister w o r k e f h =
+    plain_again n before after order b c i values taints marks (bit marks c) e f refl
+    (λ clear. given_again n before after b (Register c i) values taints e r (register_value_again n before after c i values (k clear)) (register_taint_again n before after c i values taints (k clear)) h)
 register_again n before after order b c i values taints marks ResetRegister w o r k e f h =
     cell_again n before after order b c (Register c i) values taints marks (bit marks c) o e (own_cell c) (ap is_passing f) refl
     (λ clear. given_again n before after b (Register c i) values taints e r (register_value_again n before after c i values (k clear)) (register_taint_again n before after c i values taints (k clear)) h)
@@ -196,8 +247,8 @@ register_again n before after order b c i values taints marks MemoryBlock w o r 
 register_again n before after order b c i values taints marks CarriedOver w o r k e f h = absurd (elim (w.register_role b c i e) [ inl q ↦ (let z : PlainRegister ≡ CarriedOver = sym q ∙ f in absurd (cc)) | inr q ↦ (let z : ResetRegister ≡ CarriedOver = sym q ∙ f in absurd (cc)) ])
 
 again_by : (n : Netlist) (before after : Given) (order : List ℕ) (b : ℕ) (values taints marks : List Bool) (d : Driver) → IsWired n → IsLevelled n order → ((k : ℕ) → before.released k ≡ after.released k) → ((c : ℕ) → bit marks c ≡ false → KeepsAt before after c)
-    → driver_of n b ≡ d → Shows n before values taints b → Shows n after values taints b ⊎ (Waits n order 0 marks b ⊎ (is_source n b ≡ true))
-again_by n before after order b values taints marks (Input p i) w o r k e h = inr (inr (ap (is_source_by n) e))
+    → driver_of n b ≡ d → Shows n before values taints b → Shows n after values taints b ⊎ (Waits n order 0 marks b ⊎ MayChange n marks b)
+again_by n before after order b values taints marks (Input p i) w o r k e h = inr (inr (input_open n b p i marks e))
 again_by n before after order b values taints marks Clock w o r k e h = inl (given_again n before after b Clock values taints e r (clock_again n before after values) (clock_taint_again n before after values taints) h)
 again_by n before after order b values taints marks (Output c p i) w o r k e h = inl (given_again n before after b (Output c p i) values taints e r (output_again n before after c p i values) (output_taint_again n before after c p i values taints) h)
 again_by n before after order b values taints marks (Register c i) w o r k e h = register_again n before after order b c i values taints marks (role_at n c) w o r (k c) e refl h
@@ -213,9 +264,15 @@ begins_again n before after order values taints marks w o r k h = λ b. again_by
 
 -- ---- from nothing
 
+plain_in_range : (n : Netlist) (c : ℕ) → role_at n c ≡ PlainRegister → c < length n.cells
+plain_in_range n c h = elim (le_or_lt c (length n.cells)) [
+  | inl l ↦ l
+  | inr l ↦ absurd (let e : role_at n c ≡ CarriedOver = ap (λ (x : Cell). role_of x.kind) (get_or_past n.cells c no_cell l) in let q : PlainRegister ≡ CarriedOver = sym h ∙ e in cc)
+]
+
 clear_register : (n : Netlist) (g : Given) (order : List ℕ) (b c i : ℕ) (values taints marks : List Bool) (role : Role) → IsWired n → IsLevelled n order → (c < length n.cells → bit marks c ≡ true) → driver_of n b ≡ Register c i → role_at n c ≡ role
-    → Shows n g values taints b ⊎ (Waits n order 0 marks b ⊎ (is_source n b ≡ true))
-clear_register n g order b c i values taints marks PlainRegister w o m e f = inr (inr (ap (is_source_by n) e ∙ ap is_plain f))
+    → Shows n g values taints b ⊎ (Waits n order 0 marks b ⊎ MayChange n marks b)
+clear_register n g order b c i values taints marks PlainRegister w o m e f = inr (inr (plain_open n b c i marks e f (m (plain_in_range n c f))))
 clear_register n g order b c i values taints marks ResetRegister w o m e f =
     inr (inl (waits_at n order c b marks o (ap is_passing f) (ap (is_of_cell c) e ∙ own_cell c) (m (in_range n c (ap is_passing f)))))
 clear_register n g order b c i values taints marks Combinational w o m e f = absurd (elim (w.register_role b c i e) [ inl q ↦ (let z : PlainRegister ≡ Combinational = sym q ∙ f in absurd (cc)) | inr q ↦ (let z : ResetRegister ≡ Combinational = sym q ∙ f in absurd (cc)) ])
@@ -235,8 +292,8 @@ released_false true = refl
 released_false false = refl
 
 clear_by : (n : Netlist) (g : Given) (order : List ℕ) (b : ℕ) (values taints marks : List Bool) (d : Driver) → IsWired n → IsLevelled n order → bit values b ≡ false → bit taints b ≡ false → ((c : ℕ) → c < length n.cells → bit marks c ≡ true) → driver_of n b ≡ d
-    → Shows n g values taints b ⊎ (Waits n order 0 marks b ⊎ (is_source n b ≡ true))
-clear_by n g order b values taints marks (Input p i) w o ev et m e = inr (inr (ap (is_source_by n) e))
+    → Shows n g values taints b ⊎ (Waits n order 0 marks b ⊎ MayChange n marks b)
+clear_by n g order b values taints marks (Input p i) w o ev et m e = inr (inr (input_open n b p i marks e))
 clear_by n g order b values taints marks Clock w o ev et m e = inl (record {
   value = ev ∙ sym (ap (driver_value n g.stored g.input (bit values)) e ∙ clock_value n g (bit values));
   taint = et ∙ sym (ap (λ d. cond (g.released b) false (driver_taint n g.stored (bit values) g.state g.taint_input (bit taints) d)) e ∙ ap (λ x. cond (g.released b) false x) (clock_taint n g (bit values) (bit taints)) ∙ released_false (g.released b));

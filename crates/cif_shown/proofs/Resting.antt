@@ -13,7 +13,7 @@ use Rattle.cif_defs.specs.declared.kinds.Role.TheVariants.{CarriedOver, Combinat
 use Rattle.cif_defs.proofs.Levels.{same_words_under}
 use Rattle.cif_defs.proofs.TaintSettles.{same_taints_under}
 use Rattle.cif_readers.specs.Reads.{Notes}
-use Rattle.cif_shown.specs.Shown.{AreKept, AreResting, Given, KeepsAt, Rests}
+use Rattle.cif_shown.specs.Shown.{AreKept, AreResting, Follows, Given, KeepsAt, Rests}
 
 -- what a cell stores next depends on its operand words and their taints
 stored_by_words : (r : Role) (c : Cell) (u v : ℕ → Bool) (stored : Word) → operand_words u c ≡ operand_words v c → stored_by r c u stored ≡ stored_by r c v stored
@@ -36,12 +36,6 @@ flag_by_words PlainRegister c u v s t flag e f = refl
 flag_by_words ResetRegister c u v s t flag e f = refl
 flag_by_words Combinational c u v s t flag e f = refl
 flag_by_words CarriedOver c u v s t flag e f = refl
-
--- what the cells store after a cycle, one by one
-pub record Follows (n : Netlist) (before after : Given) (values taints : List Bool) (c : ℕ) : Type 0 where
-  pub value : get_or after.stored c [] ≡ stored_by (role_at n c) (cell_at n c) (bit values) (get_or before.stored c [])
-  pub taint : get_or after.state.stored c [] ≡ taint_stored_by (role_at n c) (cell_at n c) (bit values) (bit taints) (get_or before.stored c []) (get_or before.state.stored c [])
-  pub flag : get_or after.state.flags c false ≡ flag_by (role_at n c) (cell_at n c) (bit values) (bit taints) (get_or before.state.flags c false)
 
 rests_at : (n : Netlist) (before after : Given) (values taints new_values new_taints : List Bool) (c : ℕ) → operand_words (bit new_values) (cell_at n c) ≡ operand_words (bit values) (cell_at n c) → operand_taints (bit new_taints) (cell_at n c) ≡ operand_taints (bit taints) (cell_at n c)
     → KeepsAt before after c → Follows n before after values taints c → Rests n after new_values new_taints c

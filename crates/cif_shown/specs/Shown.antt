@@ -90,13 +90,34 @@ pub record AreSourcesBelow (n : Netlist) (sources : List ℕ) (end : ℕ) : Type
   pub only : (i : ℕ) → i < length sources → is_source n (get_or sources i 0) ≡ true
   pub inside : (i : ℕ) → i < length sources → get_or sources i 0 < length n.drivers
 
--- while the sources are set: a bit shows what its driver gives, is driven by a marked cell, or is a source that is still to come
-unfoldable pub AreBegun : Netlist → Given → List ℕ → List ℕ → ℕ → List Bool → List Bool → List Bool → Type 0
-AreBegun n g order sources from marks values taints = (b : ℕ) → Shows n g values taints b ⊎ (Waits n order 0 marks b ⊎ StandsFrom sources from b)
+-- what may give something else than in the cycle before, by marks of the cells: an input port, or a register that is marked
+abbrev pub is_open_by : List Bool → Driver → Bool
+is_open_by marks (Input p i) = true
+is_open_by marks (Register c i) = bit marks c
+is_open_by marks (Output c p i) = false
+is_open_by marks (Read c r i) = false
+is_open_by marks Clock = false
 
--- before the sources are set: a bit shows what its driver gives, is driven by a marked cell, or is a source
+abbrev pub is_open : Netlist → List Bool → ℕ → Bool
+is_open n marks b = is_open_by marks (driver_of n b)
+
+-- a source that may change and is still to come
+pub record IsToCome (n : Netlist) (sources : List ℕ) (from : ℕ) (marks : List Bool) (b : ℕ) : Type 0 where
+  pub stands : StandsFrom sources from b
+  pub is_open : is_open n marks b ≡ true
+
+-- while the sources are set: a bit shows what its driver gives, is driven by a marked cell, or is a source to come
+unfoldable pub AreBegun : Netlist → Given → List ℕ → List ℕ → ℕ → List Bool → List Bool → List Bool → Type 0
+AreBegun n g order sources from marks values taints = (b : ℕ) → Shows n g values taints b ⊎ (Waits n order 0 marks b ⊎ IsToCome n sources from marks b)
+
+-- a source that may change
+pub record MayChange (n : Netlist) (marks : List Bool) (b : ℕ) : Type 0 where
+  pub source : is_source n b ≡ true
+  pub is_open : is_open n marks b ≡ true
+
+-- before the sources are set: a bit shows what its driver gives, is driven by a marked cell, or is a source that may change
 unfoldable pub MayBegin : Netlist → Given → List ℕ → List Bool → List Bool → List Bool → Type 0
-MayBegin n g order marks values taints = (b : ℕ) → Shows n g values taints b ⊎ (Waits n order 0 marks b ⊎ (is_source n b ≡ true))
+MayBegin n g order marks values taints = (b : ℕ) → Shows n g values taints b ⊎ (Waits n order 0 marks b ⊎ MayChange n marks b)
 
 -- ---- from cycle to cycle
 
@@ -109,6 +130,12 @@ pub record Rests (n : Netlist) (g : Given) (values taints : List Bool) (c : ℕ)
 -- each cell that isn't marked rests
 unfoldable pub AreResting : Netlist → Given → List Bool → List Bool → List Bool → Type 0
 AreResting n g values taints marks = (c : ℕ) → bit marks c ≡ false → Rests n g values taints c
+
+-- what a cell stores after a cycle with these values and taints is what it then stores next
+pub record Follows (n : Netlist) (before after : Given) (values taints : List Bool) (c : ℕ) : Type 0 where
+  pub value : get_or after.stored c [] ≡ stored_by (role_at n c) (cell_at n c) (bit values) (get_or before.stored c [])
+  pub taint : get_or after.state.stored c [] ≡ taint_stored_by (role_at n c) (cell_at n c) (bit values) (bit taints) (get_or before.stored c []) (get_or before.state.stored c [])
+  pub flag : get_or after.state.flags c false ≡ flag_by (role_at n c) (cell_at n c) (bit values) (bit taints) (get_or before.state.flags c false)
 
 -- each cell that isn't marked stores what it stored before
 pub record KeepsAt (before after : Given) (c : ℕ) : Type 0 where

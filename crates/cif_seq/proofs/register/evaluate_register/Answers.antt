@@ -7,7 +7,7 @@ use Rattle.cif_defs.specs.Stimulus.{is_released}
 use Rattle.cif_seq.specs.Cases.{net_of}
 use Rattle.cif_seq.proofs.CaseLaws.{register_output}
 use Rattle.cif_seq.proofs.Found.{register_taints_found, register_values_found}
-use Rattle.cif_seq.proofs.settle.evaluate_register.Goals as goal
+use Rattle.cif_seq.proofs.register.evaluate_register.Goals as goal
 
 pub output-requires : goal.output-requires
 output-requires c = register_output c.cell-cell.result.now (ap (λ (z : Cell). role_of z.kind) c.cell-cell.ensures.is ∙ c.requires.role) c.cell-cell.ensures.fitted

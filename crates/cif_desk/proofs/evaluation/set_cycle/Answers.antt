@@ -6,7 +6,7 @@ use Rattle.cif_desk.specs.Shown.{AreInside}
 use Rattle.cif_seq.specs.Cases.{net_of}
 use Rattle.cif_desk.proofs.TextLaws.{flat_map_done}
 use Rattle.cif_desk.proofs.ShownBits.{outputs_inside}
-use Rattle.cif_desk.proofs.evaluation.cycle_text.Goals as goal
+use Rattle.cif_desk.proofs.evaluation.set_cycle.Goals as goal
 
 pub push_port-requires : goal.push_port-requires
 push_port-requires c =

@@ -4,7 +4,7 @@ use Rattle.cif_defs.specs.Accepted.{netlist_of}
 use Rattle.cif_cells.proofs.MemoryCells.{memory_ports}
 use Rattle.cif_starts.proofs.StartWords.{cell_read}
 use Rattle.cif_seq.proofs.CellStates.{fitted_read, narrow_read, role_read, numbers_read, values_long, taints_long}
-use Rattle.cif_seq.proofs.state.next_state.Goals as goal
+use Rattle.cif_seq.proofs.roles.next_state.Goals as goal
 
 pub value_words-requires : goal.value_words-requires
 value_words-requires c = narrow_read c.args.netlist.now c.args.number _ c.cells.ensures.accepted c.requires.number (cell_read (netlist_of c.args.netlist.now) c.cells.result.now c.args.number c.index-cells-number.result c.cells.ensures.are c.index-cells-number.is c.requires.number)
