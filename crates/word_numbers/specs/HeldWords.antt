@@ -1,6 +1,5 @@
 -- The words that numbers hold, and words that numbers give bit by bit.
-use Rattle.std.specs.Prelude.{ℕ, ◌+◌, ◌-◌, ◌^◌, ◌<◌, Bool, not, ◌&&◌, nat_le, List, [], ◌∷◌, get_or, length}
-use Rattle.std.specs.List.{list_any}
+use Rattle.std.specs.Prelude.{ℕ, ◌+◌, ◌-◌, ◌^◌, ◌<◌, Bool, ◌&&◌, nat_le, List, [], ◌∷◌, get_or, length}
 use Rattle.cif_defs.specs.Words.{Word, bit, word, word_of}
 use Rattle.word_numbers.specs.declared.words.Words.{Words}
 
@@ -30,13 +29,3 @@ raised_word k w = word (length w) (λ i. nat_le k i && bit w (i - k))
 -- a word moved down within its width, with a fill above
 abbrev pub lowered_word : ℕ → Bool → Word → Word
 lowered_word k fill w = word (length w) (λ i. get_or w (i + k) fill)
-
--- ---- the lowest and the highest 1
-
--- whether a bit below place i is 1
-abbrev pub one_below : Word → ℕ → Bool
-one_below w i = list_any (λ b. b) (word i (λ k. bit w k))
-
--- the lowest 1 alone
-abbrev pub lowest_one_word : Word → Word
-lowest_one_word w = word (length w) (λ i. bit w i && not (one_below w i))

@@ -1,5 +1,5 @@
 // Words made wider and narrower, cut out and joined.
-ghost use Rattle.std.specs.Prelude.{ℕ, ◌≡◌, ◌+◌, ◌^◌, ◌<◌, ◌≤◌};
+ghost use Rattle.std.specs.Prelude.{ℕ, ◌≡◌, ◌+◌, ◌-◌, ◌^◌, ◌<◌, ◌≤◌};
 ghost use Rattle.cif_defs.specs.Words.{extend, word_of};
 ghost use Rattle.cif_defs.specs.Meanings.{concat_word, slice_word};
 
