@@ -1,6 +1,6 @@
 -- What a cell is evaluated to, from what the calls of an evaluation say.
 use Rattle.std.specs.Prelude.{ℕ, ◌<◌, ◌≤◌, ◌≡◌, Bool, false, List, [], length, map, get_or}
-use Rattle.std.proofs.Common.{arith, ap, sym, ◌∙◌, subst, inl, inr}
+use Rattle.std.proofs.Common.{arith, ap, refl, sym, ◌∙◌, subst, inl, inr}
 use Rattle.std.proofs.lemmas.List.{get_or_past, length-map}
 use Rattle.std.proofs.lemmas.List.FromFn.{get_or-map-range_with_len}
 use Rattle.cif_defs.specs.Words.{Word, bit, operand}
@@ -41,15 +41,15 @@ taints_given c vs ts given p i f h = elim (le_or_lt p (length (outputs_of c.kind
   | inr l ↦ absurd (let z : output_width c p ≡ 0 = width_past c p l in omega arith)
 ]
 
-pub outputs_taints_found : (n : Netlist) (c : ℕ) (x : Cell) (stored : List Word) (t : TaintState) (released : ℕ → Bool) (marks : List Bool) (given_vs given_ts vs ts ws written : List Word) (outs : _) (values old new : List Bool) → IsWired n → role_at n c ≡ Combinational
-    → length old ≡ length n.drivers → Marks n marks released → x ≡ cell_at n c → IsFitted x → outs ≡ x.outputs → given_vs ≡ vs → given_ts ≡ ts → vs ≡ operand_words (bit values) x → ts ≡ operand_taints (bit old) x
-    → ws ≡ taint_words x given_vs given_ts → written ≡ ws → new ≡ put_words marks outs written old → EvaluatesTaints n stored values t released c old new
-outputs_taints_found n c x stored t released marks given_vs given_ts vs ts ws written outs values old new w role size m hx fit ho hgv hgt hv ht hw hs k =
+pub outputs_taints_found : (n : Netlist) (c : ℕ) (x : Cell) (stored : List Word) (t : TaintState) (released : ℕ → Bool) (marks : List Bool) (given_vs vs ws written : List Word) (outs : _) (values old new : List Bool) → IsWired n → role_at n c ≡ Combinational
+    → length old ≡ length n.drivers → Marks n marks released → x ≡ cell_at n c → IsFitted x → outs ≡ x.outputs → given_vs ≡ vs → vs ≡ operand_words (bit values) x
+    → ((p i : ℕ) → bit (operand ws p) i ≡ bit (operand (taint_words (cell_at n c) given_vs (operand_taints (bit old) (cell_at n c))) p) i) → written ≡ ws → new ≡ put_words marks outs written old → EvaluatesTaints n stored values t released c old new
+outputs_taints_found n c x stored t released marks given_vs vs ws written outs values old new w role size m hx fit ho hgv hv hw hs k =
     outputs_taints n c stored written t released marks values old new w role size m
     (λ p i l.
-    let wide : get_or (map length (cell_at n c).outputs) p 0 ≡ output_width x p = ap (λ (z : Cell). get_or (map length z.outputs) p 0) (sym hx) ∙ ap (λ ns. get_or ns p 0) fit.outputs in
-    ap (λ (us : List Word). bit (operand us p) i) hs ∙ taints_given x given_vs given_ts ws p i hw (omega arith) ∙ ap (λ (us : List Word). output_taint x p i us given_ts) (hgv ∙ hv) ∙ ap (λ (us : List Word). output_taint x p i (operand_words (bit values) x) us) (hgt ∙ ht)
-    ∙ ap (λ (z : Cell). output_taint z p i (operand_words (bit values) z) (operand_taints (bit old) z)) hx)
+    let wide : get_or (map length (cell_at n c).outputs) p 0 ≡ output_width (cell_at n c) p = ap (λ ns. get_or ns p 0) (ap (λ (z : Cell). map length z.outputs) (sym hx) ∙ fit.outputs ∙ ap (λ (z : Cell). map (row_width z) (outputs_of z.kind)) hx) in
+    ap (λ (us : List Word). bit (operand us p) i) hs ∙ hw p i ∙ taints_given (cell_at n c) given_vs (operand_taints (bit old) (cell_at n c)) (taint_words (cell_at n c) given_vs (operand_taints (bit old) (cell_at n c))) p i refl (omega arith)
+    ∙ ap (λ (us : List Word). output_taint (cell_at n c) p i us (operand_taints (bit old) (cell_at n c))) (hgv ∙ hv ∙ ap (operand_words (bit values)) hx))
     (k ∙ ap (λ (us : _). put_words marks us written old) (ho ∙ ap (λ (z : Cell). z.outputs) hx))
 
 -- ---- registers with asynchronous reset

@@ -4,6 +4,7 @@ pub mod Found
 pub mod Slices
 pub mod Settling
 pub mod CaseLaws
+pub mod CleanOperands
 pub mod StateWidths
 pub mod FrameLaws
 pub mod CellStates

@@ -18,9 +18,9 @@ use Rattle.cif_defs.proofs.WordLaws.{le_or_lt}
 use Rattle.cif_cycle.specs.declared.stored.StoredWords.{StoredWords}
 use Rattle.cif_inputs.specs.declared.inputs.Inputs.{Inputs}
 use Rattle.cif_readers.specs.Reads.{Notes}
-use Rattle.cif_shown.specs.Shown.{AreKept, MayBegin, Shows, WillRest}
+use Rattle.cif_shown.specs.Shown.{AreKept, Follows, MayBegin, Shows, WillRest}
 use Rattle.cif_shown.proofs.Begun.{begins_again, begins_clear}
-use Rattle.cif_shown.proofs.Resting.{Follows, resting_after}
+use Rattle.cif_shown.proofs.Resting.{resting_after}
 use Rattle.cif_seq.specs.Cases.{CaseOf, net_of}
 use Rattle.cif_seq.specs.GivenAt.{given_at, given_by}
 use Rattle.cif_seq.specs.Stored.{IsStored, given_of, given_words}

@@ -8,8 +8,8 @@ use Rattle.cif_defs.specs.Run.{driver_value_at_depth_0}
 use Rattle.cif_defs.specs.TaintRun.{driver_taint_at_depth_0}
 use Rattle.cif_readers.specs.Reads.{Notes}
 use Rattle.cif_shown.specs.Evaluates.{EvaluatesTaints, EvaluatesValues, Marks}
-use Rattle.cif_shown.specs.Shown.{AreBegun, AreShown, AreSources, Given}
-use Rattle.cif_shown.proofs.Begun.{source_set}
+use Rattle.cif_shown.specs.Shown.{AreBegun, AreShown, AreSources, Given, is_open}
+use Rattle.cif_shown.proofs.Begun.{source_passed, source_set}
 use Rattle.cif_shown.proofs.Passes.{cell_evaluated, cell_passed_over}
 use Rattle.cif_seq.proofs.Slices.{cleared_by}
 
@@ -23,6 +23,10 @@ evaluated_place n g order read i c values taints new_values new_taints marks new
 
 pub passed_place : (n : Netlist) (g : Given) (order read : List ℕ) (i c : ℕ) (values taints marks : List Bool) → read ≡ order → c ≡ get_or read i 0 → bit marks c ≡ false → AreShown n g order i marks values taints → AreShown n g order (i + 1) marks values taints
 passed_place n g order read i c values taints marks e q clear h = cell_passed_over n g order i values taints marks (ap (bit marks) (sym (q ∙ ap (λ (xs : List ℕ). get_or xs i 0) e)) ∙ clear) h
+
+-- a source that can't have changed
+pub source_passed_over : (n : Netlist) (g : Given) (order sources : List ℕ) (i b : ℕ) (values taints marks : List Bool) (found : Bool) → b ≡ get_or sources i 0 → found ≡ false → found ≡ is_open n marks b → AreBegun n g order sources i marks values taints → AreBegun n g order sources (i + 1) marks values taints
+source_passed_over n g order sources i b values taints marks found at shut e h = source_passed n g order sources i b values taints marks at (sym e ∙ shut) h
 
 -- one more source is set, by a mark that clears its taint
 pub source_placed : (n : Netlist) (g : Given) (order sources : List ℕ) (i b : ℕ) (x y m t : Bool) (marks_of values taints new_values new_taints marks new_marks : List Bool) → IsWired n → IsLevelled n order → AreSources n sources → i < length sources → b ≡ get_or sources i 0

@@ -31,7 +31,7 @@ fn has_taint(taints: &[bool], sources: &[Src]) -> bool
 
 /// Whether a cell reads a tainted bit, where `taints` are those of the net bits.
 fn reads_taint(taints: &[bool], cell: &Cell) -> bool
-    ensures { result ≡ false → IsUntainted (operand_taints (bit taints.now) cell.now) }
+    ensures { result ≡ list_any (list_any (src_taint (bit taints.now))) cell.now.operands }
 {
     cell.operands()
         .iter()
