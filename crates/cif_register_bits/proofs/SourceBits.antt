@@ -1,0 +1,25 @@
+-- The bits of words that are read.
+use Rattle.std.specs.Prelude.{ℕ, zero, suc, ◌<◌, ◌≤◌, ◌≡◌, Bool, false, List, [], ◌∷◌, length, get_or, refl}
+use Rattle.std.proofs.Common.{arith}
+use Rattle.std.proofs.lemmas.List.{get_or_past}
+use Rattle.cif_defs.specs.Words.{bit}
+use Rattle.cif_defs.specs.Run.{src_bit, src_word}
+use Rattle.cif_defs.specs.TaintRun.{src_taint, taint_word}
+use Rattle.cif_defs.specs.declared.nets.Src.{Src}
+use Rattle.cif_register_bits.proofs.SourceWidths.{length-source, length-taint}
+
+pub bit-source : (v : ℕ → Bool) (ss : List Src) (i : ℕ) (d : Src) → i < length ss → bit (src_word v ss) i ≡ src_bit v (get_or ss i d)
+bit-source v [] i d h = absurd (omega arith)
+bit-source v (s ∷ ss) zero d h = refl
+bit-source v (s ∷ ss) (suc i) d h = bit-source v ss i d (omega arith)
+
+pub bit-taint : (v : ℕ → Bool) (ss : List Src) (i : ℕ) (d : Src) → i < length ss → bit (taint_word v ss) i ≡ src_taint v (get_or ss i d)
+bit-taint v [] i d h = absurd (omega arith)
+bit-taint v (s ∷ ss) zero d h = refl
+bit-taint v (s ∷ ss) (suc i) d h = bit-taint v ss i d (omega arith)
+
+pub bit-source_past : (v : ℕ → Bool) (ss : List Src) (i : ℕ) → length ss ≤ i → bit (src_word v ss) i ≡ false
+bit-source_past v ss i h = get_or_past (src_word v ss) i false (let e : length (src_word v ss) ≡ length ss = length-source v ss in omega arith)
+
+pub bit-taint_past : (v : ℕ → Bool) (ss : List Src) (i : ℕ) → length ss ≤ i → bit (taint_word v ss) i ≡ false
+bit-taint_past v ss i h = get_or_past (taint_word v ss) i false (let e : length (taint_word v ss) ≡ length ss = length-taint v ss in omega arith)
