@@ -1,5 +1,5 @@
 -- The controls of each kind of register steer it.
-use Rattle.std.specs.Prelude.{ℕ, ◌≡◌, true, false, List, [], ◌∷◌, map, length, get_or, refl}
+use Rattle.std.specs.Prelude.{ℕ, ◌<◌, ◌≡◌, Bool, true, false, List, [], ◌∷◌, map, length, get_or, refl}
 use Rattle.std.proofs.Common.{sym, ap, ◌∙◌}
 use Rattle.cif_defs.specs.declared.kinds.Kind.{Kind}
 use Rattle.cif_defs.specs.declared.kinds.Kind.TheVariants.{Dff, Dffe, Sdff, Sdffe, Sdffce, Adff, Adffe}
@@ -11,9 +11,9 @@ use Rattle.cif_defs.specs.Cells.{Cell, digits_of, next_by, next_word, reset_oper
 use Rattle.cif_defs.specs.Completions.{can_differ}
 use Rattle.cif_defs.specs.Fitted.{IsFitted, operand_widths, row_width}
 use Rattle.cif_defs.specs.Table.{operands_of}
-use Rattle.cif_defs.specs.Taint.{next_bit, shown_bit}
+use Rattle.cif_defs.specs.Taint.{next_bit, next_register_taint, shown_bit, shown_taint}
 use Rattle.cif_defs.specs.Words.{Word, bit, operand}
-use Rattle.cif_defs.proofs.WordLaws.{bit-word}
+use Rattle.cif_defs.proofs.WordLaws.{bit-word, length-word}
 use Rattle.cif_kinds.proofs.OperandWidths.{map_width}
 use Rattle.rule_state.proofs.BitWords.{one_word, two_words, three_words}
 use Rattle.rule_state.proofs.RegisterRows.{HasRow, dff_differs, dff_row, dffe_differs, dffe_row, sdff_differs, sdff_row, sdffce_differs, sdffce_row, sdffe_differs, sdffe_row, shown_differs}
@@ -22,7 +22,7 @@ use Rattle.cif_register_bits.specs.declared.controls.Precedence.{Precedence}
 use Rattle.cif_register_bits.specs.declared.controls.Precedence.TheVariants.{Reset, Enable}
 use Rattle.cif_register_bits.specs.declared.controls.Controls.{Controls}
 use Rattle.cif_register_bits.specs.Choices.{bit_with, chosen, untainted}
-use Rattle.cif_register_bits.specs.Steering.{IsShownBy, IsSteeredBy, active_at, controls_by, controls_of, enable_by, precedence_by, reset_by, reset_value_by}
+use Rattle.cif_register_bits.specs.Steering.{IsShownBy, IsSteeredBy, next_of, shown_of, active_at, controls_by, controls_of, enable_by, precedence_by, reset_by, reset_value_by}
 
 -- ---- row by row
 
@@ -144,3 +144,44 @@ shown c vs ts x r e h =
           ∙ ap (λ p. (chosen (active_at c ArstPolarity vs ts q) (bit_with s st i) (untainted (bit (digits_of c p) i))).taint) by_value
           ∙ sym (bit-word (width c) (λ j. can_differ (shown_bit c j) (operand vs q ∷ s ∷ []) (operand ts q ∷ st ∷ [])) i false l ∙ shown_differs c i (operand vs q) (operand ts q) s st l (cc));
     }
+
+-- ---- widths
+
+length-next_by : (k : Kind) (c : Cell) (us : List Word) (stored : Word) → length (next_by k c us stored) ≡ width c
+unfolding next_by
+length-next_by Dff c us stored = length-word (width c) _
+length-next_by Dffe c us stored = length-word (width c) _
+length-next_by Sdff c us stored = length-word (width c) _
+length-next_by Sdffe c us stored = length-word (width c) _
+length-next_by Sdffce c us stored = length-word (width c) _
+length-next_by Adff c us stored = length-word (width c) _
+length-next_by Adffe c us stored = length-word (width c) _
+length-next_by _ c us stored = length-word (width c) _
+
+pub length-next_word : (c : Cell) (us : List Word) (stored : Word) → length (next_word c us stored) ≡ width c
+length-next_word c us stored = length-next_by c.kind c us stored
+
+pub length-shown_word : (c : Cell) (b : Bool) (stored : Word) → length (shown_word c b stored) ≡ width c
+unfolding shown_word
+length-shown_word c b stored = length-word (width c) _
+
+-- ---- one bit, by the controls
+
+-- n is bit i of a word and of its taint
+pub record IsBitOf (n : TaintedBit) (w t : Word) (i : ℕ) : Type 0 where
+  pub value : n.value ≡ bit w i
+  pub taint : n.taint ≡ bit t i
+
+pub next_bit_is : (c : Cell) (vs ts : List Word) (x : Controls) (s st : Word) (i : ℕ) (d p n : TaintedBit) → IsSteeredBy c vs ts x → length s ≡ width c → length st ≡ width c → i < width c
+    → d ≡ bit_with (operand vs 0) (operand ts 0) i → p ≡ bit_with s st i → n ≡ next_of x (bit (digits_of c x.reset_value) i) d p → IsBitOf n (next_word c vs s) (next_register_taint c vs ts s st) i
+next_bit_is c vs ts x s st i d p n h k l m e f g =
+    let found : n ≡ next_of x (bit (digits_of c x.reset_value) i) (bit_with (operand vs 0) (operand ts 0) i) (bit_with s st i) =
+    g ∙ ap (λ (z : TaintedBit). next_of x (bit (digits_of c x.reset_value) i) z p) e ∙ ap (next_of x (bit (digits_of c x.reset_value) i) (bit_with (operand vs 0) (operand ts 0) i)) f in
+    record { value = ap (λ (z : TaintedBit). z.value) found ∙ h.value s st i m; taint = ap (λ (z : TaintedBit). z.taint) found ∙ h.taint s st i k l m }
+
+pub shown_bit_is : (c : Cell) (vs ts : List Word) (x : Controls) (s st : Word) (i : ℕ) (p n : TaintedBit) → IsShownBy c vs ts x → length s ≡ width c → length st ≡ width c → i < width c
+    → p ≡ bit_with s st i → n ≡ shown_of x (bit (digits_of c x.reset_value) i) p
+    → IsBitOf n (shown_word c (bit (operand vs (reset_operand c.kind)) 0) s) (shown_taint c (operand vs (reset_operand c.kind)) (operand ts (reset_operand c.kind)) s st) i
+shown_bit_is c vs ts x s st i p n h k l m f g =
+    let found : n ≡ shown_of x (bit (digits_of c x.reset_value) i) (bit_with s st i) = g ∙ ap (shown_of x (bit (digits_of c x.reset_value) i)) f in
+    record { value = ap (λ (z : TaintedBit). z.value) found ∙ h.value s st i m; taint = ap (λ (z : TaintedBit). z.taint) found ∙ h.taint s st i k l m }

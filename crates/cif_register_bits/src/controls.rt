@@ -11,7 +11,7 @@ ghost use Rattle.cif_defs.specs.declared.kinds.Role.TheVariants.{ResetRegister};
 ghost use Rattle.cif_register_bits.specs.Choices.{bit_with, chosen, untainted};
 ghost use Rattle.cif_register_bits.specs.Steering.{active_bit, controls_of, enable_by, next_of, precedence_by, reset_by, reset_value_by, shown_of, IsShownBy, IsSteeredBy};
 
-use crate::sources::{operand_sources, read_bit};
+use crate::sources::operand_bit;
 use crate::tainted_bit::TaintedBit;
 use cif_kinds::{Cell, Kind, Param};
 
@@ -57,7 +57,7 @@ fn control(
         (operand (operand_words (bit values.now) cell.now) port)
         (operand (operand_taints (bit taints.now) cell.now) port) 0) }
 {
-    let found = read_bit(values, taints, operand_sources(cell, port), 0);
+    let found = operand_bit(cell, port, 0, values, taints);
     let polarity = cell.number(polarity);
     let depends = is_active(polarity, false) ^ is_active(polarity, true);
     TaintedBit {

@@ -9,5 +9,5 @@ mod sources;
 mod tainted_bit;
 
 pub use controls::{Controls, Precedence};
-pub use sources::{operand_sources, read_bit};
+pub use sources::operand_bit;
 pub use tainted_bit::TaintedBit;

@@ -1,8 +1,9 @@
 // The bits that a cell reads, straight from the net bits.
 ghost use Rattle.std.specs.Prelude.{◌≡◌, [], get_or};
-ghost use Rattle.cif_defs.specs.Words.{bit};
-ghost use Rattle.cif_defs.specs.Run.{src_bit, src_word};
-ghost use Rattle.cif_defs.specs.TaintRun.{src_taint, taint_word};
+ghost use Rattle.cif_defs.specs.Words.{bit, operand};
+ghost use Rattle.cif_defs.specs.Run.{operand_words, src_bit, src_word};
+ghost use Rattle.cif_defs.specs.TaintRun.{operand_taints, src_taint, taint_word};
+ghost use Rattle.cif_register_bits.specs.Choices.{bit_with};
 
 use crate::tainted_bit::TaintedBit;
 use cif_kinds::{Cell, Src};
@@ -31,7 +32,7 @@ fn source_bit(values: &[bool], taints: &[bool], source: Src) -> TaintedBit
 
 /// Bit `index` of the word of some bits that are read, which is 0 and untainted past its end, where `values` and `taints`
 /// are those of the net bits.
-pub fn read_bit(values: &[bool], taints: &[bool], sources: &[Src], index: usize) -> TaintedBit
+fn read_bit(values: &[bool], taints: &[bool], sources: &[Src], index: usize) -> TaintedBit
     ensures value { result.value ≡ bit (src_word (bit values.now) sources.now) index }
     ensures taint { result.taint ≡ bit (taint_word (bit taints.now) sources.now) index }
 {
@@ -43,11 +44,28 @@ pub fn read_bit(values: &[bool], taints: &[bool], sources: &[Src], index: usize)
 }
 
 /// The bits that an operand of a cell reads, lowest first; none where there is no such operand.
-pub fn operand_sources(cell: &Cell, port: usize) -> &[Src]
+fn operand_sources(cell: &Cell, port: usize) -> &[Src]
     ensures { result.now ≡ get_or cell.now.operands port [] }
 {
     match cell.operands().get(port) {
         Some(sources) => sources.items(),
         None => &[],
     }
+}
+
+/// Bit `index` of the word at an operand of a cell, which is 0 and untainted past its end and where there is no such
+/// operand, where `values` and `taints` are those of the net bits.
+pub fn operand_bit(
+    cell: &Cell,
+    port: usize,
+    index: usize,
+    values: &[bool],
+    taints: &[bool],
+) -> TaintedBit
+    ensures { result ≡ bit_with
+        (operand (operand_words (bit values.now) cell.now) port)
+        (operand (operand_taints (bit taints.now) cell.now) port) index }
+{
+    let sources = operand_sources(cell, port);
+    read_bit(values, taints, sources, index)
 }
