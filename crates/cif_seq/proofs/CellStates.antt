@@ -28,7 +28,7 @@ use Rattle.cif_cycle.specs.CellWords.{AreNarrow}
 use Rattle.cif_seq.specs.Stored.{IsStored}
 use Rattle.cif_seq.specs.States.{start_values, start_taints, start_flags, next_values, next_stored_taints, next_flags}
 use Rattle.cif_seq.proofs.StateWidths.{length-stored, length-taint}
-use Rattle.cif_cycle.proofs.SourceWords.{words_wide, taints_wide}
+use Rattle.cif_register_bits.proofs.SourceWidths.{words_wide, taints_wide}
 
 -- ---- one more cell
 

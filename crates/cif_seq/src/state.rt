@@ -130,9 +130,7 @@ fn next_state(
     let cell = &netlist.cells()[number as usize];
     match table::role(cell.kind()) {
         Role::PlainRegister | Role::ResetRegister => {
-            let operands = value_words(alloc, values, cell)?;
-            let operand_taints = taint_words(alloc, taints, cell)?;
-            next_register(alloc, cell, operands, operand_taints, prior)
+            next_register(alloc, cell, values, taints, prior)
         }
         Role::MemoryBlock => {
             let operands = value_words(alloc, values, cell)?;
