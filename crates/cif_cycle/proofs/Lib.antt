@@ -5,3 +5,4 @@ pub mod PutRows
 pub mod ResetWords
 pub mod MemoryReads
 pub mod WrittenPorts
+pub mod RegisterWords

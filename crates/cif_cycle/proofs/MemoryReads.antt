@@ -21,7 +21,7 @@ use Rattle.cif_defs.proofs.WordLaws.{bit-word, le_or_lt, length-word, same_words
 use Rattle.cif_kinds.specs.StateCells.{HasMemoryPorts}
 use Rattle.cif_cells.proofs.MemoryCells.{memory_ports}
 use Rattle.cif_cycle.specs.CellWords.{read_taints, read_words}
-use Rattle.cif_cycle.proofs.SourceWords.{length-source, length-taint, words_wide}
+use Rattle.cif_register_bits.proofs.SourceWidths.{length-source, length-taint, words_wide}
 
 -- ---- the address of a port
 

@@ -6,30 +6,14 @@ use Rattle.cif_defs.specs.Words.{Word}
 use Rattle.cif_defs.specs.Table.{operands_of, width_limit}
 use Rattle.cif_defs.specs.Cells.{Cell}
 use Rattle.cif_defs.specs.Fitted.{AllWithin, IsFitted, IsWithin, row_width}
-use Rattle.cif_defs.specs.Run.{src_word, words_under}
-use Rattle.cif_defs.specs.TaintRun.{taint_word as taint_bits, taints_under}
+use Rattle.cif_defs.specs.Run.{src_word}
+use Rattle.cif_defs.specs.TaintRun.{taint_word as taint_bits}
 use Rattle.cif_defs.specs.declared.kinds.Kind.TheVariants.{Mem}
 use Rattle.cif_defs.specs.declared.kinds.PortRow.{PortRow}
 use Rattle.cif_defs.specs.declared.nets.Src.{Src}
 use Rattle.cif_checks.proofs.CellChecks.{limit_small}
+use Rattle.cif_register_bits.proofs.SourceWidths.{length-source, length-taint}
 use Rattle.cif_cycle.specs.CellWords.{AreNarrow}
-
-pub length-source : (v : ℕ → Bool) (ss : List Src) → length (src_word v ss) ≡ length ss
-length-source v [] = refl
-length-source v (s ∷ ss) = ap suc (length-source v ss)
-
-pub words_wide : (v : ℕ → Bool) (ops : List (List Src)) → map length (words_under v ops) ≡ map length ops
-words_wide v [] = refl
-words_wide v (ss ∷ ops) = let one : length (src_word v ss) ≡ length ss = length-source v ss in let rest : map length (words_under v ops) ≡ map length ops = words_wide v ops in cc
-
-pub length-taint : (v : ℕ → Bool) (ss : List Src) → length (taint_bits v ss) ≡ length ss
-length-taint v [] = refl
-length-taint v (s ∷ ss) = ap suc (length-taint v ss)
-
--- the taints of operands are as wide as the operands
-pub taints_wide : (v : ℕ → Bool) (ops : List (List Src)) → map length (taints_under v ops) ≡ map length ops
-taints_wide v [] = refl
-taints_wide v (ss ∷ ops) = let one : length (taint_bits v ss) ≡ length ss = length-taint v ss in let rest : map length (taints_under v ops) ≡ map length ops = taints_wide v ops in cc
 
 row_small : (c : Cell) (rows : List PortRow) (p : ℕ) → AllWithin c rows → get_or (map (row_width c) rows) p 0 ≤ 65536
 row_small c [] p w = omega arith

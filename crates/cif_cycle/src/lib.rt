@@ -13,6 +13,6 @@ mod tainted;
 pub use bits::bit_of;
 pub use gather::{taint_words, value_words};
 pub use memory::{next_memory, read_data};
-pub use register::{next_register, shown_words};
+pub use register::{ShownBits, next_register};
 pub use stored::{CellState, StateRef, StateWord, StoredWords};
 pub use tainted::{Tainted, TaintedWord};

@@ -1,167 +1,143 @@
-// Registers: what those with asynchronous reset show, and what each stores next.
-ghost use Rattle.std.specs.Prelude.{◌≡◌, ◌∷◌, ◌++◌, [], true, length, map, Some, IfOk};
+// Registers: what those with asynchronous reset show, and what each stores next. No words are gathered: each bit is read
+// where it stands.
+ghost use Rattle.std.specs.Prelude.{◌≡◌, ◌<◌, true, length, IfOk};
 ghost use Rattle.cif_defs.specs.Words.{bit, operand};
 ghost use Rattle.cif_defs.specs.Kinds.{is_register, role_of};
 ghost use Rattle.cif_defs.specs.Cells.{next_word, reset_operand, shown_word, width as width_of};
-ghost use Rattle.cif_defs.specs.Fitted.{IsFitted, operand_widths};
+ghost use Rattle.cif_defs.specs.declared.kinds.Role.TheVariants.{ResetRegister};
+ghost use Rattle.cif_defs.specs.Fitted.{IsFitted};
 ghost use Rattle.cif_defs.specs.Run.{operand_words};
 ghost use Rattle.cif_defs.specs.Taint.{next_register_taint, shown_taint};
 ghost use Rattle.cif_defs.specs.TaintRun.{operand_taints};
+ghost use Rattle.cif_register_bits.specs.Choices.{bit_with};
+ghost use Rattle.cif_cycle.specs.ShownBits.{shown_at, shown_taints, shown_values};
 
-use crate::gather::{taint_word, value_word};
 use crate::stored::{CellState, StateRef, StateWord};
-use crate::tainted::TaintedWord;
-use cif_bits::{Bits, NoMemory};
-use cif_kinds::{Cell, Role};
-use cif_registers::{register_next, register_show};
-use rule_state::{next_taint_term, show_taint_term};
-use std::alloc::Global;
+use crate::tainted::Tainted;
+use cif_bits::NoMemory;
+use cif_kinds::{Cell, Param};
+use cif_register_bits::{Controls, TaintedBit, operand_bit};
+use std::alloc::{AllocError, Global};
+
+/// A bit that a register stores, and its taint.
+fn stored_bit(stored: StateRef, index: u32) -> TaintedBit
+    ensures { result ≡ bit_with stored.entry.value.now stored.entry.taint.now index }
+{
+    TaintedBit {
+        value: stored.value.bit(u64::from(index)),
+        taint: stored.taint.bit(u64::from(index)),
+    }
+}
 
 // ---- what it shows
 
-/// The taint of what a register with asynchronous reset shows, where `reset` is the word at its reset and `stored` the
-/// word that it stores, each with its taint.
-fn shown_taint_of(
-    alloc: Global,
-    cell: &Cell,
-    reset: TaintedWord,
-    stored: TaintedWord,
-) -> Result<Bits, NoMemory>
-    requires role { role_of cell.now.kind ≡ Role.ResetRegister }
-    requires fitted { IsFitted cell.now }
-    requires reset { length reset.value ≡ 1 }
-    requires reset_taint { length reset.taint ≡ 1 }
-    requires stored { length stored.value ≡ width_of cell.now }
-    requires stored_taint { length stored.taint ≡ width_of cell.now }
-    ensures { IfOk result
-        (λ t. t ≡ shown_taint cell.now reset.value reset.taint stored.value stored.taint) }
-{
-    let term = show_taint_term(alloc, cell)?;
-    let values = [reset.value, stored.value];
-    let taints = [reset.taint, stored.taint];
-    term.eval(alloc, &values, &taints)
+/// What a register with asynchronous reset shows in a cycle: its reset value while its reset is active, else the word
+/// that it stores. It is worked out bit by bit.
+#[derive(Clone, Copy)]
+pub struct ShownBits<'a> {
+    /// The register.
+    pub cell: &'a Cell,
+    /// Its controls.
+    pub controls: Controls,
+    /// What it stores.
+    pub stored: StateRef<'a>,
 }
 
-/// The word at the reset of a register with asynchronous reset, and its taint, where `values` and `taints` are those of
-/// the net bits.
-fn reset_word(
-    alloc: Global,
-    cell: &Cell,
-    values: &[bool],
-    taints: &[bool],
-) -> Result<TaintedWord, NoMemory>
-    requires role { role_of cell.now.kind ≡ Role.ResetRegister }
-    requires fitted { IsFitted cell.now }
-    ensures value { IfOk result (λ r.
-        r.value ≡ operand (operand_words (bit values.now) cell.now) (reset_operand cell.now.kind)) }
-    ensures taint { IfOk result (λ r.
-        r.taint ≡ operand (operand_taints (bit taints.now) cell.now) (reset_operand cell.now.kind)) }
-    ensures width { IfOk result (λ r. length r.value ≡ 1) }
-    ensures taint_width { IfOk result (λ r. length r.taint ≡ 1) }
-{
-    let sources = cell.operand(cell.kind().reset_operand());
-    let value = value_word(alloc, values, sources)?;
-    let taint = taint_word(alloc, taints, sources)?;
-    Ok(TaintedWord { value, taint })
-}
+impl<'a> ShownBits<'a> {
+    /// What a register shows that stores `stored`, where `values` and `taints` are those of the net bits.
+    pub fn of(
+        cell: &'a Cell,
+        values: &[bool],
+        taints: &[bool],
+        stored: StateRef<'a>,
+    ) -> ShownBits<'a>
+        requires role { role_of cell.now.kind ≡ ResetRegister }
+        requires fitted { IsFitted cell.now }
+        requires value { length stored.value.now ≡ width_of cell.now }
+        requires taint { length stored.taint.now ≡ width_of cell.now }
+        ensures value { shown_values result (width_of cell.now) ≡ shown_word cell.now
+            (bit (operand (operand_words (bit values.now) cell.now) (reset_operand cell.now.kind)) 0)
+            stored.entry.value.now }
+        ensures taint { shown_taints result (width_of cell.now) ≡ shown_taint cell.now
+            (operand (operand_words (bit values.now) cell.now) (reset_operand cell.now.kind))
+            (operand (operand_taints (bit taints.now) cell.now) (reset_operand cell.now.kind))
+            stored.entry.value.now stored.entry.taint.now }
+    {
+        ShownBits {
+            cell,
+            controls: Controls::of(cell, values, taints),
+            stored,
+        }
+    }
 
-/// What a register with asynchronous reset shows: its reset value while its reset is active, else the word that it
-/// stores; and the exact taint of each bit. `values` and `taints` are those of the net bits.
-pub fn shown_words(
-    alloc: Global,
-    cell: &Cell,
-    values: &[bool],
-    taints: &[bool],
-    stored: &StateWord,
-    stored_taint: &StateWord,
-) -> Result<TaintedWord, NoMemory>
-    requires role { role_of cell.now.kind ≡ Role.ResetRegister }
-    requires fitted { IsFitted cell.now }
-    requires stored { length stored.now ≡ width_of cell.now }
-    requires stored_taint { length stored_taint.now ≡ width_of cell.now }
-    ensures value { IfOk result (λ r. r.value ≡ shown_word cell.now
-        (bit (operand (operand_words (bit values.now) cell.now) (reset_operand cell.now.kind)) 0)
-        stored.now) }
-    ensures taint { IfOk result (λ r. r.taint ≡ shown_taint cell.now
-        (operand (operand_words (bit values.now) cell.now) (reset_operand cell.now.kind))
-        (operand (operand_taints (bit taints.now) cell.now) (reset_operand cell.now.kind))
-        stored.now stored_taint.now) }
-{
-    let reset = reset_word(alloc, cell, values, taints)?;
-    let stored = TaintedWord {
-        value: stored.whole(alloc)?,
-        taint: stored_taint.whole(alloc)?,
-    };
-    let value = register_show(alloc, cell, reset.value.get(0), &stored.value)?;
-    let taint = shown_taint_of(alloc, cell, reset, stored)?;
-    Ok(TaintedWord { value, taint })
+    /// Bit `index` of what is shown, and its exact taint.
+    pub fn bit(&self, index: u32) -> TaintedBit
+        ensures { result ≡ shown_at self.now index }
+    {
+        let stored = stored_bit(self.stored, index);
+        self.controls.shown_bit(self.cell, index, stored)
+    }
 }
 
 // ---- what it stores next
 
-/// The stored word of these bits.
-fn stored_of(alloc: Global, bits: &Bits) -> Result<StateWord, NoMemory>
-    ensures { IfOk result (λ w. w ≡ bits.now) }
-{
-    let bits = Vec::from_slice(alloc, bits.bits())?;
-    Ok(StateWord::of(bits))
-}
-
-/// The taint of what a register stores next, from the words of its operands and the word that it stores, each with its
-/// taint.
-fn next_taint(
+/// The bits that a register stores next, and their taints.
+fn next_bits(
     alloc: Global,
     cell: &Cell,
-    values: Vec<Bits>,
-    taints: Vec<Bits>,
-    stored: Bits,
-    stored_taint: Bits,
-) -> Result<Bits, NoMemory>
+    values: &[bool],
+    taints: &[bool],
+    prior: StateRef,
+) -> Result<Tainted<Vec<bool>>, AllocError>
     requires role { is_register (role_of cell.now.kind) ≡ true }
     requires fitted { IsFitted cell.now }
-    requires values { map length values.items ≡ operand_widths cell.now }
-    requires taints { map length taints.items ≡ operand_widths cell.now }
-    requires stored { length stored ≡ width_of cell.now }
-    requires stored_taint { length stored_taint ≡ width_of cell.now }
-    ensures { IfOk result
-        (λ w. w ≡ next_register_taint cell.now values.items taints.items stored stored_taint) }
+    requires value { length prior.value.now ≡ width_of cell.now }
+    requires taint { length prior.taint.now ≡ width_of cell.now }
+    ensures value { IfOk result (λ w. w.value.items
+        ≡ next_word cell.now (operand_words (bit values.now) cell.now) prior.entry.value.now) }
+    ensures taint { IfOk result (λ w. w.taint.items ≡ next_register_taint cell.now
+        (operand_words (bit values.now) cell.now) (operand_taints (bit taints.now) cell.now)
+        prior.entry.value.now prior.entry.taint.now) }
 {
-    let term = next_taint_term(alloc, cell)?;
-    let mut values = values;
-    let mut taints = taints;
-    values.push(stored)?;
-    taints.push(stored_taint)?;
-    Ok(term.eval(alloc, &values, &taints)?)
+    let width = cell.number(Param::Width) as u32;
+    let controls = Controls::of(cell, values, taints);
+    let mut value = Vec::with_capacity(alloc, width as usize)?;
+    let mut taint = Vec::with_capacity(alloc, width as usize)?;
+    for i in 0..width {
+        let at_d = operand_bit(cell, 0, i as usize, values, taints);
+        let stored = stored_bit(prior, i);
+        let next = controls.next_bit(cell, i, at_d, stored);
+        value.push(next.value)?;
+        taint.push(next.taint)?;
+    }
+    Ok(Tainted { value, taint })
 }
 
-/// What a register stores next and its taint, from the words of its operands and their taints, and from what it stores.
-/// The flag stays.
+/// What a register stores next and its taint, from what it stores, where `values` and `taints` are those of the net bits.
+/// The flag stays. It takes memory for the two words alone.
 pub fn next_register(
     alloc: Global,
     cell: &Cell,
-    values: Vec<Bits>,
-    taints: Vec<Bits>,
+    values: &[bool],
+    taints: &[bool],
     prior: StateRef,
 ) -> Result<CellState, NoMemory>
     requires role { is_register (role_of cell.now.kind) ≡ true }
     requires fitted { IsFitted cell.now }
-    requires values { map length values.items ≡ operand_widths cell.now }
-    requires taints { map length taints.items ≡ operand_widths cell.now }
     requires value { length prior.value.now ≡ width_of cell.now }
     requires taint { length prior.taint.now ≡ width_of cell.now }
-    ensures value { IfOk result
-        (λ s. s.value ≡ next_word cell.now values.items prior.entry.value.now) }
-    ensures taint { IfOk result (λ s. s.taint
-        ≡ next_register_taint cell.now values.items taints.items prior.entry.value.now prior.entry.taint.now) }
+    ensures value { IfOk result (λ s. s.value
+        ≡ next_word cell.now (operand_words (bit values.now) cell.now) prior.entry.value.now) }
+    ensures taint { IfOk result (λ s. s.taint ≡ next_register_taint cell.now
+        (operand_words (bit values.now) cell.now) (operand_taints (bit taints.now) cell.now)
+        prior.entry.value.now prior.entry.taint.now) }
     ensures flag { IfOk result (λ s. s.flag ≡ prior.entry.flag) }
 {
-    let stored = prior.value.whole(alloc)?;
-    let stored_taint = prior.taint.whole(alloc)?;
-    let next = register_next(alloc, cell, &values, &stored)?;
-    let taint = next_taint(alloc, cell, values, taints, stored, stored_taint)?;
+    let flag = prior.flag;
+    let next = next_bits(alloc, cell, values, taints, prior)?;
     Ok(CellState {
-        value: stored_of(alloc, &next)?,
-        taint: stored_of(alloc, &taint)?,
-        flag: prior.flag,
+        value: StateWord::of(next.value),
+        taint: StateWord::of(next.taint),
+        flag,
     })
 }

@@ -3,7 +3,7 @@ ghost use Rattle.std.specs.Prelude.{◌≡◌, ◌+◌, ◌<◌, ◌≤◌, ◌^
 ghost use Rattle.cif_defs.specs.Words.{bit, word};
 
 use crate::bits::long_bit;
-use cif_bits::{Bits, NoMemory};
+use cif_bits::NoMemory;
 use cif_pages::Paged;
 use std::alloc::Global;
 use std::marker::Model;
@@ -91,16 +91,6 @@ impl StateWord {
             bits.push(self.bit(at.saturating_add(u64::from(i))))?;
         }
         Ok(bits)
-    }
-
-    /// All the bits, of which there are at most 65,536.
-    pub fn whole(&self, alloc: Global) -> Result<Bits, NoMemory>
-        requires { length self.now ≤ 65536 }
-        ensures { IfOk result (λ w. w ≡ self.now) }
-    {
-        let width = self.len() as u32;
-        let bits = self.word(alloc, 0, width)?;
-        Ok(Bits::of(bits))
     }
 
     /// Another word of the same bits. One of a memory shares all its pages.

@@ -1,11 +1,11 @@
 -- Four numbers hold the words of at most four operands.
 use Rattle.std.specs.Prelude.{ℕ, zero, suc, ◌+◌, ◌<◌, ◌≤◌, ◌^◌, ◌≡◌, Bool, List, [], ◌∷◌, get_or, length, map, refl}
-use Rattle.std.proofs.Common.{arith, ap, sym, ◌∙◌}
+use Rattle.std.proofs.Common.{arith, ap, ◌∙◌}
 use Rattle.cif_defs.specs.Words.{Word, word_of}
 use Rattle.cif_defs.specs.Run.{src_word, words_under}
 use Rattle.cif_defs.specs.TaintRun.{taint_word, taints_under}
 use Rattle.cif_defs.specs.declared.nets.Src.{Src}
-use Rattle.word_numbers.specs.HeldWords.{AreNarrow, held, words_held}
+use Rattle.word_numbers.specs.HeldWords.{AreNarrow, held}
 use Rattle.word_numbers.specs.NarrowCells.{AreWithin128}
 use Rattle.word_numbers.specs.declared.words.Words.{Words}
 

@@ -1,8 +1,8 @@
 -- What is read at a port, as a word of values and as a word of taints.
-use Rattle.std.specs.Prelude.{ℕ, zero, suc, ◌<◌, ◌≤◌, ◌≡◌, ◌^◌, Bool, true, false, List, [], ◌∷◌, get_or, length, take, refl}
+use Rattle.std.specs.Prelude.{ℕ, zero, suc, ◌<◌, ◌≤◌, ◌≡◌, ◌^◌, Bool, true, false, List, [], ◌∷◌, get_or, length, refl}
 use Rattle.std.proofs.Common.{arith, ap, sym, ◌∙◌}
-use Rattle.std.proofs.lemmas.List.{get_or_default, take_all}
-use Rattle.cif_defs.specs.Words.{Word, bit, number, word_of}
+use Rattle.std.proofs.lemmas.List.{take_all}
+use Rattle.cif_defs.specs.Words.{bit, number, word_of}
 use Rattle.cif_defs.specs.Run.{src_bit, src_word}
 use Rattle.cif_defs.specs.TaintRun.{src_taint, taint_word}
 use Rattle.cif_defs.specs.declared.nets.Src.{Src}

@@ -1,5 +1,5 @@
 -- What a cell of a case has.
-use Rattle.std.specs.Prelude.{ℕ, ◌<◌, ◌≤◌, ◌≡◌, ◌≢◌, Bool, false, List, [], ◌∷◌, map, length, get_or}
+use Rattle.std.specs.Prelude.{ℕ, ◌<◌, ◌≤◌, ◌≡◌, ◌≢◌, Bool, false, List, [], ◌∷◌, map, length, get_or, Option}
 use Rattle.std.proofs.Common.{arith, ap, sym, ◌∙◌, subst}
 use Rattle.std.proofs.lemmas.List.{get_or_default, length-map}
 use Rattle.cif_defs.specs.Words.{Word}
@@ -24,7 +24,8 @@ use Rattle.cif_cells.proofs.MemoryCells.{memory_numbers}
 use Rattle.cif_nets.proofs.Wired.{memory_kind}
 use Rattle.cif_cycle.specs.CellWords.{AreNarrow}
 use Rattle.cif_cycle.proofs.ResetWords.{ports_of_register}
-use Rattle.cif_cycle.proofs.SourceWords.{narrow_operands, taints_wide, words_wide}
+use Rattle.cif_cycle.proofs.SourceWords.{narrow_operands}
+use Rattle.cif_register_bits.proofs.SourceWidths.{taints_wide, words_wide}
 
 cell_found : (raw : Raw) (cells : List Cell) (c : ℕ) (x : Cell) → cells ≡ (netlist_of raw).cells → x ≡ get_or cells c x → c < length (netlist_of raw).cells → x ≡ cell_at (netlist_of raw) c
 cell_found raw cells c x e h l = h ∙ ap (λ (xs : List Cell). get_or xs c x) e ∙ get_or_default (netlist_of raw).cells c x no_cell l
@@ -69,6 +70,16 @@ memory_output c e f =
     let rows : map length c.outputs ≡ map (row_width c) (outputs_of Mem) = f.outputs ∙ ap (λ (k : Kind). map (row_width c) (outputs_of k)) kind in
     let many : length (map length c.outputs) ≡ 1 = ap length rows in
     let same : length (map length c.outputs) ≡ length c.outputs = length-map c.outputs length in
+    omega arith
+
+-- the output of a register has a bit for each that it stores
+pub register_wide : (c : Cell) (outs : List (Option ℕ)) → role_of c.kind ≡ ResetRegister → IsFitted c → outs ≡ get_or c.outputs 0 [] → length outs ≡ width c
+register_wide c outs e f h = ap length h ∙ (ports_of_register c (λ b. false) e f).q
+
+pub register_narrow : (c : Cell) (outs : List (Option ℕ)) → role_of c.kind ≡ ResetRegister → IsFitted c → outs ≡ get_or c.outputs 0 [] → length outs ≤ 4096
+register_narrow c outs e f h =
+    let wide : length outs ≡ width c = register_wide c outs e f h in
+    let limit : width c ≤ 4096 = (ports_of_register c (λ b. false) e f).limit in
     omega arith
 
 -- a register stores WIDTH bits

@@ -26,7 +26,7 @@ use Rattle.cif_cells.proofs.MemoryCells.{memory_numbers}
 use Rattle.cif_cells.proofs.StateLaws.{few_state_bits}
 use Rattle.cif_cycle.specs.CellWords.{AreNarrow}
 use Rattle.cif_seq.specs.States.{start_values, start_taints, start_flags}
-use Rattle.cif_cycle.proofs.SourceWords.{words_wide, taints_wide}
+use Rattle.cif_register_bits.proofs.SourceWidths.{words_wide, taints_wide}
 
 -- ---- one more cell
 

@@ -9,7 +9,6 @@ ghost use Rattle.cif_defs.specs.TaintRun.{TaintState, operand_taints, src_taint}
 ghost use Rattle.cif_readers.specs.Reads.{Notes};
 ghost use Rattle.cif_seq.specs.Cases.{net_of};
 ghost use Rattle.cif_term.specs.CellTaints.{taint_words as word_taints};
-ghost use Rattle.cif_shapes.specs.Untainted.{IsUntainted};
 ghost use Rattle.cif_shown.specs.Evaluates.{EvaluatesValues, EvaluatesTaints};
 
 use crate::case::Case;

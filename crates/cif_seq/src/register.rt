@@ -1,5 +1,5 @@
 // Registers: what they start with, and what those with asynchronous reset show.
-ghost use Rattle.std.specs.Prelude.{◌≡◌, ◌<◌, false, length, IfOk, IsOk};
+ghost use Rattle.std.specs.Prelude.{◌≡◌, ◌<◌, false, length, IfOk};
 ghost use Rattle.cif_defs.specs.Words.{word};
 ghost use Rattle.cif_defs.specs.Netlist.{role_at};
 ghost use Rattle.cif_defs.specs.Stimulus.{is_released, start_at};
@@ -11,10 +11,10 @@ ghost use Rattle.cif_seq.specs.Stored.{IsStored};
 ghost use Rattle.cif_shown.specs.Evaluates.{EvaluatesValues, EvaluatesTaints};
 
 use crate::case::Case;
-use crate::write::write_word;
+use crate::write::write_shown;
 use cif_bits::NoMemory;
 use cif_cells::{Netlist, Role};
-use cif_cycle::{CellState, StateWord, StoredWords, shown_words};
+use cif_cycle::{CellState, ShownBits, StateRef, StateWord, StoredWords};
 use cif_starts::{StartLines, start_word};
 use cif_stimulus::Stimulus;
 use std::alloc::Global;
@@ -49,48 +49,37 @@ pub fn start_register(
 
 /// Evaluates a register with asynchronous reset: writes the word that it shows to `values` and its taint to `taints`.
 pub fn evaluate_register(
-    alloc: Global,
     case: &Case,
     number: u32,
     stored: &StoredWords,
     values: &mut [bool],
     taints: &mut [bool],
     marks: &mut [bool],
-) -> Result<(), NoMemory>
+)
     requires inside { number < length (net_of case.now).cells }
     requires role { role_at (net_of case.now) number ≡ Role.ResetRegister }
     requires stored { IsStored (net_of case.now) stored.now.values.items stored.now.taints.items stored.now.flags.items }
     requires as_many_values { length values.old ≡ length (net_of case.now).drivers }
     requires as_many_taints { length taints.old ≡ length (net_of case.now).drivers }
     requires as_many_marks { length marks.old ≡ length (net_of case.now).cells }
-    ensures values { IsOk result
-        → EvaluatesValues (net_of case.now) stored.now.values.items number values.old values.new }
-    ensures taints { IsOk result
-        → EvaluatesTaints (net_of case.now) stored.now.values.items values.old
+    ensures values { EvaluatesValues (net_of case.now) stored.now.values.items number values.old values.new }
+    ensures taints { EvaluatesTaints (net_of case.now) stored.now.values.items values.old
         (record { stored = stored.now.taints.items; flags = stored.now.flags.items })
         (is_released case.now.stimulus.lines) number taints.old taints.new }
-    ensures notes { IsOk result → Notes (net_of case.now) values.old taints.old values.new taints.new marks.old marks.new }
+    ensures notes { Notes (net_of case.now) values.old taints.old values.new taints.new marks.old marks.new }
     ensures values_length { length values.new ≡ length values.old }
     ensures taints_length { length taints.new ≡ length taints.old }
     ensures marks_length { length marks.new ≡ length marks.old }
 {
     let cell = case.cell(number);
-    let stored_value = &stored.values[number as usize];
-    let stored_taint = &stored.taints[number as usize];
-    let shown = shown_words(alloc, cell, values, taints, stored_value, stored_taint)?;
+    let held = StateRef {
+        value: &stored.values[number as usize],
+        taint: &stored.taints[number as usize],
+        flag: stored.flags[number as usize],
+    };
+    let shown = ShownBits::of(cell, values, taints, held);
     let readers = case.readers();
     let released = case.released();
-    let word = shown.value.bits();
-    let taint = shown.taint.bits();
-    write_word(
-        readers,
-        released,
-        cell.output(0),
-        word,
-        taint,
-        values,
-        taints,
-        marks,
-    );
-    Ok(())
+    let targets = cell.output(0);
+    write_shown(readers, released, targets, &shown, values, taints, marks);
 }

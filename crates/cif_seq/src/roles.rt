@@ -104,9 +104,10 @@ pub fn evaluate_cell(
         Role::Combinational => Ok(evaluate_combinational(
             alloc, case, number, values, taints, marks,
         )?),
-        Role::ResetRegister => Ok(evaluate_register(
-            alloc, case, number, stored, values, taints, marks,
-        )?),
+        Role::ResetRegister => {
+            evaluate_register(case, number, stored, values, taints, marks);
+            Ok(())
+        }
         Role::MemoryBlock => Ok(evaluate_memory(
             alloc, case, number, stored, values, taints, marks,
         )?),
@@ -141,9 +142,7 @@ pub fn next_state(
     let cell = &netlist.cells()[number as usize];
     match table::role(cell.kind()) {
         Role::PlainRegister | Role::ResetRegister => {
-            let operands = value_words(alloc, values, cell)?;
-            let operand_taints = taint_words(alloc, taints, cell)?;
-            next_register(alloc, cell, operands, operand_taints, prior)
+            next_register(alloc, cell, values, taints, prior)
         }
         Role::MemoryBlock => {
             let operands = value_words(alloc, values, cell)?;

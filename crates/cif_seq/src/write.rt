@@ -2,13 +2,14 @@
 ghost use Rattle.std.specs.Prelude.{◌≡◌, ◌≤◌, [], length};
 ghost use Rattle.cif_defs.specs.Netlist.{Netlist as NetlistData};
 ghost use Rattle.cif_defs.specs.Words.{operand};
+ghost use Rattle.cif_cycle.specs.ShownBits.{shown_taints, shown_values};
 ghost use Rattle.cif_readers.specs.Reads.{Notes};
 ghost use Rattle.cif_readers.specs.Tables.{AreReaders};
 ghost use Rattle.cif_seq.specs.Writes.{put, put_word, put_words};
 
 use cif_bits::Bits;
 use cif_cells::{NetBit, Targets};
-use cif_cycle::bit_of;
+use cif_cycle::{ShownBits, bit_of};
 use cif_readers::Readers;
 
 /// The bits of the word of `port`; none where there is no such port.
@@ -75,6 +76,37 @@ pub fn write_word(
         let target = targets[i];
         write_target(
             readers, released, target, value_bit, taint_bit, values, taints, marks,
+        );
+    }
+}
+
+/// Writes what a register shows and its taint to the net bits of its output; a released bit is untainted.
+pub fn write_shown(
+    readers: &Readers,
+    released: &[bool],
+    targets: &[Option<NetBit>],
+    shown: &ShownBits,
+    values: &mut [bool],
+    taints: &mut [bool],
+    marks: &mut [bool],
+)
+    requires few { length targets.now ≤ 4096 }
+    requires as_many { length taints.old ≡ length values.old }
+    ensures values { values.new
+        ≡ put_word [] targets.now (shown_values shown.now (length targets.now)) values.old }
+    ensures taints { taints.new
+        ≡ put_word released.now targets.now (shown_taints shown.now (length targets.now)) taints.old }
+    ensures values_length { length values.new ≡ length values.old }
+    ensures taints_length { length taints.new ≡ length taints.old }
+    ensures marks_length { length marks.new ≡ length marks.old }
+    ensures notes { (n : NetlistData) → AreReaders n readers.now → length n.cells ≤ length marks.old
+        → Notes n values.old taints.old values.new taints.new marks.old marks.new }
+{
+    for i in 0..targets.len() {
+        let bit = shown.bit(i as u32);
+        let target = targets[i];
+        write_target(
+            readers, released, target, bit.value, bit.taint, values, taints, marks,
         );
     }
 }

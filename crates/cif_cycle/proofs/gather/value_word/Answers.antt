@@ -1,5 +1,5 @@
 use Rattle.std.proofs.Common.{◌∙◌, ◌≡◌, ap, arith, length}
-use Rattle.cif_cycle.proofs.SourceWords.{length-source}
+use Rattle.cif_register_bits.proofs.SourceWidths.{length-source}
 use Rattle.cif_cycle.proofs.gather.value_word.Goals as goal
 
 pub of-requires : goal.of-requires

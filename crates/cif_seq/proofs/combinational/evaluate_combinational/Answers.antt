@@ -1,7 +1,6 @@
 -- What is written is what the cell of the netlist gives.
-use Rattle.std.proofs.Common.{ap, map, length, ◌∙◌}
+use Rattle.std.proofs.Common.{ap, ◌∙◌}
 use Rattle.cif_defs.specs.Words.{bit}
-use Rattle.cif_defs.specs.Cells.{Cell}
 use Rattle.cif_defs.specs.Fitted.{operand_widths}
 use Rattle.cif_defs.specs.Stimulus.{is_released}
 use Rattle.cif_seq.specs.Cases.{net_of}

@@ -3,7 +3,7 @@ use Rattle.cif_defs.specs.Words.{bit}
 use Rattle.cif_defs.specs.Netlist.{cell_at}
 use Rattle.cif_seq.specs.Cases.{net_of}
 use Rattle.cif_seq.proofs.CaseLaws.{narrow_found, taints_found}
-use Rattle.cif_seq.proofs.CleanOperands.{no_words, rule_words}
+use Rattle.cif_seq.proofs.CleanOperands.{no_words}
 use Rattle.cif_seq.proofs.combinational.output_taints.Goals as goal
 
 pub returns-then-not-reads_taint : goal.returns-then-not-reads_taint

@@ -1,5 +1,5 @@
 -- What is stored next is what the definitions store next, and the frame begins with what the one before held.
-use Rattle.std.proofs.Common.{◌∙◌, ◌≡◌, ◌++◌, Bool, List, ap, arith, drop, length, refl, sym, subst, take}
+use Rattle.std.proofs.Common.{◌∙◌, ◌≡◌, ◌++◌, ap, arith, drop, length, refl, sym, subst, take}
 use Rattle.cif_defs.specs.Accepted.{netlist_of}
 use Rattle.cif_defs.specs.declared.raw_module.Raw.{Raw}
 use Rattle.cif_defs.specs.Loop.{IsLevelled}

@@ -1,4 +1,3 @@
-use Rattle.std.proofs.Common.{refl}
 use Rattle.cif_defs.specs.Words.{bit}
 use Rattle.cif_defs.specs.Accepted.{netlist_of}
 use Rattle.cif_cells.proofs.MemoryCells.{memory_ports}
@@ -6,26 +5,14 @@ use Rattle.cif_starts.proofs.StartWords.{cell_read}
 use Rattle.cif_seq.proofs.CellStates.{fitted_read, narrow_read, role_read, numbers_read, values_long, taints_long}
 use Rattle.cif_seq.proofs.roles.next_state.Goals as goal
 
+pub next_register-requires-clause-fitted : goal.next_register-requires-clause-fitted
+next_register-requires-clause-fitted c = fitted_read c.args.netlist.now c.cells.result.now c.args.number _ c.cells.ensures.fitted c.cells.ensures.are c.index-cells-number.is c.requires.number
+
 pub value_words-requires : goal.value_words-requires
 value_words-requires c = narrow_read c.args.netlist.now c.args.number _ c.cells.ensures.accepted c.requires.number (cell_read (netlist_of c.args.netlist.now) c.cells.result.now c.args.number c.index-cells-number.result c.cells.ensures.are c.index-cells-number.is c.requires.number)
 
 pub taint_words-requires : goal.taint_words-requires
 taint_words-requires c = narrow_read c.args.netlist.now c.args.number _ c.cells.ensures.accepted c.requires.number (cell_read (netlist_of c.args.netlist.now) c.cells.result.now c.args.number c.index-cells-number.result c.cells.ensures.are c.index-cells-number.is c.requires.number)
-
-pub next_register-requires-clause-fitted : goal.next_register-requires-clause-fitted
-next_register-requires-clause-fitted c = fitted_read c.args.netlist.now c.cells.result.now c.args.number _ c.cells.ensures.fitted c.cells.ensures.are c.index-cells-number.is c.requires.number
-
-pub next_register-requires-clause-values : goal.next_register-requires-clause-values
-next_register-requires-clause-values c = values_long (bit c.args.values.now) c.index-cells-number.result _ _ refl c.in_ok-operands-in-PlainRegister.ensures
-
-pub next_register-requires-clause-taints : goal.next_register-requires-clause-taints
-next_register-requires-clause-taints c = taints_long (bit c.args.taints.now) c.index-cells-number.result _ _ refl c.in_ok-operand_taints-in-PlainRegister.ensures
-
-pub value_words-requires-in-MemoryBlock : goal.value_words-requires-in-MemoryBlock
-value_words-requires-in-MemoryBlock c = narrow_read c.args.netlist.now c.args.number _ c.cells.ensures.accepted c.requires.number (cell_read (netlist_of c.args.netlist.now) c.cells.result.now c.args.number c.index-cells-number.result c.cells.ensures.are c.index-cells-number.is c.requires.number)
-
-pub taint_words-requires-in-MemoryBlock : goal.taint_words-requires-in-MemoryBlock
-taint_words-requires-in-MemoryBlock c = narrow_read c.args.netlist.now c.args.number _ c.cells.ensures.accepted c.requires.number (cell_read (netlist_of c.args.netlist.now) c.cells.result.now c.args.number c.index-cells-number.result c.cells.ensures.are c.index-cells-number.is c.requires.number)
 
 pub next_memory-requires-clause-numbers : goal.next_memory-requires-clause-numbers
 next_memory-requires-clause-numbers c =
@@ -36,10 +23,10 @@ pub next_memory-requires-clause-values : goal.next_memory-requires-clause-values
 next_memory-requires-clause-values c =
     memory_ports c.index-cells-number.result c.deref.result.now (role_read c.index-cells-number.result c.kind.result c.role.result _ c.kind.ensures c.role.ensures c.in-MemoryBlock.is)
     (fitted_read c.args.netlist.now c.cells.result.now c.args.number _ c.cells.ensures.fitted c.cells.ensures.are c.index-cells-number.is c.requires.number)
-    (values_long (bit c.args.values.now) c.index-cells-number.result _ _ c.deref.ensures.value c.in_ok-operands-in-MemoryBlock.ensures)
+    (values_long (bit c.args.values.now) c.index-cells-number.result _ _ c.deref.ensures.value c.in_ok-operands.ensures)
 
 pub next_memory-requires-clause-taints : goal.next_memory-requires-clause-taints
 next_memory-requires-clause-taints c =
-    memory_ports c.index-cells-number.result c.deref-in-MemoryBlock.result.now (role_read c.index-cells-number.result c.kind.result c.role.result _ c.kind.ensures c.role.ensures c.in-MemoryBlock.is)
+    memory_ports c.index-cells-number.result c.deref-2.result.now (role_read c.index-cells-number.result c.kind.result c.role.result _ c.kind.ensures c.role.ensures c.in-MemoryBlock.is)
     (fitted_read c.args.netlist.now c.cells.result.now c.args.number _ c.cells.ensures.fitted c.cells.ensures.are c.index-cells-number.is c.requires.number)
-    (taints_long (bit c.args.taints.now) c.index-cells-number.result _ _ c.deref-in-MemoryBlock.ensures.value c.in_ok-operand_taints-in-MemoryBlock.ensures)
+    (taints_long (bit c.args.taints.now) c.index-cells-number.result _ _ c.deref-2.ensures.value c.in_ok-operand_taints.ensures)

@@ -1,4 +1,4 @@
-use Rattle.std.proofs.Common.{refl, ◌∙◌, arith}
+use Rattle.std.proofs.Common.{refl, ◌∙◌}
 use Rattle.cif_seq.specs.Cases.{net_of}
 use Rattle.cif_readers.proofs.NoteLaws.{nothing_noted, notes_join}
 use Rattle.cif_shown.proofs.Begun.{sources_begun, sources_done}

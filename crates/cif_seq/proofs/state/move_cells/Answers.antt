@@ -1,4 +1,4 @@
-use Rattle.std.proofs.Common.{arith, ap, length, ◌≡◌, ◌≤◌, ◌∙◌, List}
+use Rattle.std.proofs.Common.{arith, ap, length, ◌≡◌, ◌∙◌, List}
 use Rattle.cif_defs.specs.Accepted.{netlist_of}
 use Rattle.cif_defs.specs.Cells.{Cell}
 use Rattle.cif_seq.specs.Stored.{given_of}

@@ -1,0 +1,4 @@
+pub mod SourceWidths
+pub mod SourceBits
+pub mod SteeringLaws
+pub mod ControlBits
