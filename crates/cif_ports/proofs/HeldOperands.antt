@@ -1,5 +1,5 @@
 -- Four numbers hold the words of at most four operands.
-use Rattle.std.specs.Prelude.{ℕ, zero, suc, ◌+◌, ◌<◌, ◌≤◌, ◌^◌, ◌≡◌, Bool, List, [], ◌∷◌, get_or, length, map, refl}
+use Rattle.std.specs.Prelude.{ℕ, zero, suc, ◌<◌, ◌≤◌, ◌^◌, ◌≡◌, Bool, List, [], ◌∷◌, get_or, length, map, refl}
 use Rattle.std.proofs.Common.{arith, ap, ◌∙◌}
 use Rattle.cif_defs.specs.Words.{Word, word_of}
 use Rattle.cif_defs.specs.Run.{src_word, words_under}
@@ -22,7 +22,7 @@ held_four f (s ∷ []) a b c d l ea eb ec ed = rw ea refl
 held_four f (s ∷ t ∷ []) a b c d l ea eb ec ed = rw (ea, eb) refl
 held_four f (s ∷ t ∷ u ∷ []) a b c d l ea eb ec ed = rw (ea, eb, ec) refl
 held_four f (s ∷ t ∷ u ∷ v ∷ []) a b c d l ea eb ec ed = rw (ea, eb, ec, ed) refl
-held_four f (s ∷ t ∷ u ∷ v ∷ w ∷ ops) a b c d l ea eb ec ed = absurd (let z : length ops + 5 ≤ 4 = l in omega arith)
+held_four f (s ∷ t ∷ u ∷ v ∷ w ∷ ops) a b c d l ea eb ec ed = absurd (omega (arith, l))
 
 values_each : (v : ℕ → Bool) (ops : List (List Src)) → map (src_word v) ops ≡ words_under v ops
 values_each v [] = refl

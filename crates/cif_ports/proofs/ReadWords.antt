@@ -38,9 +38,9 @@ bit-read_at one v [] i d l = absurd (omega arith)
 bit-read_at one v (s ∷ ss) zero d l = refl
 bit-read_at one v (s ∷ ss) (suc i) d l = bit-read_at one v ss i d (omega arith)
 
--- a bit of what is read, from a source that was read at its place
-pub bit-read : (one : Bool) (v : ℕ → Bool) (ss : List Src) (i : ℕ) (s : Src) (b x : Bool) → i < length ss → s ≡ get_or ss i s → b ≡ read_bit one v s → b ≡ x → bit (read_word one v ss) i ≡ x
-bit-read one v ss i s b x l e h q = bit-read_at one v ss i s l ∙ sym (ap (read_bit one v) e) ∙ sym h ∙ q
+-- a bit of what is read, as it was found
+pub bit-read : (one : Bool) (v : ℕ → Bool) (ss : List Src) (i : ℕ) (d : Src) (b x : Bool) → i < length ss → b ≡ read_bit one v (get_or ss i d) → b ≡ x → bit (read_word one v ss) i ≡ x
+bit-read one v ss i d b x l h q = bit-read_at one v ss i d l ∙ sym h ∙ q
 
 -- once all bits are read
 pub all_read : (one : Bool) (v : ℕ → Bool) (ss : List Src) (i total : ℕ) → length ss ≤ i → i ≤ length ss → IsNumberBelow (read_word one v ss) i total → word_of (length ss) total ≡ read_word one v ss
