@@ -1,0 +1,4 @@
+pub mod Extensions
+pub mod Chances
+pub mod LogicWords
+pub mod LogicForms
