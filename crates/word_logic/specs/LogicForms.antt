@@ -22,7 +22,7 @@ form_operands (Adder n) = n ∷ n ∷ n ∷ []
 abbrev pub form_outputs : LogicForm → List ℕ
 form_outputs (Unary k e) = e.to ∷ []
 form_outputs (Binary k e m) = e.to ∷ []
-form_outputs (Joined m n) = m + n ∷ []
+form_outputs (Joined m n) = (m + n) ∷ []
 form_outputs (Sliced m at n) = n ∷ []
 form_outputs (Adder n) = n ∷ n ∷ []
 

@@ -8,7 +8,7 @@ ghost use Rattle.word_logic.specs.Chances.{is_logic, logic_open};
 use crate::bounds::Chance;
 use crate::extension::Extension;
 use cif_kinds::Kind;
-use word_numbers::{Words, complement, flag, has_one};
+use word_numbers::{Words, complement, extend, flag, has_one};
 
 /// What a bitwise kind gives from two words of `width` bits.
 #[tactic(auto, unfolding(crate::specs::LogicWords::binary_word))]
@@ -30,6 +30,21 @@ fn bitwise(kind: Kind, width: u32, x: u128, y: u128) -> u128
     }
 }
 
+/// What a bitwise cell gives from its first two operands.
+fn extended_value(kind: Kind, shown: &Extension, b_width: u32, values: &Words) -> u128
+    requires form { IsBinaryForm kind shown.now b_width }
+    requires kind { is_bitwise kind ≡ true }
+    requires a_fits { values.now.a < 2 ^ shown.now.from }
+    requires b_fits { values.now.b < 2 ^ b_width }
+    ensures word { word_of shown.now.to result
+        ≡ binary_word kind shown.now.to shown.now.signed (word_of shown.now.from values.now.a) (word_of b_width values.now.b) }
+    ensures fits { result < 2 ^ shown.now.to }
+{
+    let x = shown.shown(values.a);
+    let y = extend(b_width, shown.to, shown.signed, values.b);
+    bitwise(kind, shown.to, x, y)
+}
+
 /// What a cell gives from its first two operands.
 pub fn binary_value(kind: Kind, shown: &Extension, b_width: u32, values: &Words) -> u128
     requires form { IsBinaryForm kind shown.now b_width }
@@ -42,10 +57,7 @@ pub fn binary_value(kind: Kind, shown: &Extension, b_width: u32, values: &Words)
     match kind {
         Kind::LogicAnd => flag(has_one(values.a) & has_one(values.b)),
         Kind::LogicOr => flag(has_one(values.a) | has_one(values.b)),
-        _ => {
-            let b_shown = shown.of_width(b_width);
-            bitwise(kind, shown.to, shown.shown(values.a), b_shown.shown(values.b))
-        }
+        _ => extended_value(kind, shown, b_width, values),
     }
 }
 
@@ -64,7 +76,8 @@ fn bitwise_taint(kind: Kind, width: u32, x: u128, tx: u128, y: u128, ty: u128) -
     match kind {
         Kind::And => (tx & ty) | ((tx & y) | (ty & x)),
         Kind::Or => (tx & ty) | ((tx & !y) | (ty & !x)),
-        Kind::Xor | Kind::Xnor => tx | ty,
+        Kind::Xor => tx | ty,
+        Kind::Xnor => tx | ty,
         _ => unreachable!(),
     }
 }
@@ -93,11 +106,10 @@ fn extended_taint(kind: Kind, shown: &Extension, b_width: u32, values: &Words, t
         ≡ binary_taint kind shown.now.to shown.now.signed (word_of shown.now.from values.now.a) (word_of shown.now.from taints.now.a) (word_of b_width values.now.b) (word_of b_width taints.now.b) }
     ensures fits { result < 2 ^ shown.now.to }
 {
-    let b_shown = shown.of_width(b_width);
     let x = shown.shown(values.a);
     let tx = shown.shown(taints.a);
-    let y = b_shown.shown(values.b);
-    let ty = b_shown.shown(taints.b);
+    let y = extend(b_width, shown.to, shown.signed, values.b);
+    let ty = extend(b_width, shown.to, shown.signed, taints.b);
     bitwise_taint(kind, shown.to, x, tx, y, ty)
 }
 

@@ -27,15 +27,4 @@ impl Extension {
     {
         extend(self.from, self.to, self.signed, number)
     }
-
-    /// The same extension of an operand of another width.
-    pub fn of_width(&self, from: u32) -> Extension
-        ensures { result ≡ record { from = from; to = self.now.to; signed = self.now.signed } }
-    {
-        Extension {
-            from,
-            to: self.to,
-            signed: self.signed,
-        }
-    }
 }
