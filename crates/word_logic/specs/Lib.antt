@@ -2,3 +2,4 @@ pub mod Extensions
 pub mod Chances
 pub mod LogicWords
 pub mod LogicForms
+pub mod FormOf

@@ -12,6 +12,7 @@ mod binary;
 mod bounds;
 mod extension;
 mod form;
+mod read;
 mod unary;
 
 pub use extension::Extension;
