@@ -3,3 +3,6 @@ pub mod BitwiseTaints
 pub mod Majorities
 pub mod TruthValues
 pub mod HeldOutputs
+pub mod WiringForms
+pub mod LogicFormulaWords
+pub mod LogicCells
