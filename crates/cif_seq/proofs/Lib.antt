@@ -1,6 +1,7 @@
 pub mod PutWords
 pub mod Evaluated
 pub mod Found
+pub mod HeldOutputs
 pub mod Slices
 pub mod Settling
 pub mod CaseLaws
@@ -10,3 +11,4 @@ pub mod FrameLaws
 pub mod CellStates
 pub mod Moved
 pub mod NextFrames
+pub mod Forms

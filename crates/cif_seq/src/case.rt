@@ -1,5 +1,5 @@
 // Cases: a netlist, its levels and a stimulus.
-ghost use Rattle.std.specs.Prelude.{◌≡◌, ℕ, ◌<◌, ◌||◌, true, IfOk, length, map};
+ghost use Rattle.std.specs.Prelude.{◌≡◌, ℕ, ◌<◌, ◌||◌, true, IfOk, MatchOption, ⊤, length, map};
 ghost use Rattle.std.specs.List.{list_any};
 ghost use Rattle.cif_defs.specs.Words.{bit};
 ghost use Rattle.cif_defs.specs.Accepted.{netlist_of};
@@ -12,7 +12,9 @@ ghost use Rattle.cif_kinds.specs.StateCells.{HasMemoryNumbers};
 ghost use Rattle.cif_inputs.specs.Cursor.{IsMapOf};
 ghost use Rattle.cif_stimulus.specs.Fitting.{fits_of};
 ghost use Rattle.cif_stimulus.specs.StimulusView.{line_seen};
+ghost use Rattle.cif_seq.specs.CaseView.{AreForms};
 ghost use Rattle.cif_seq.specs.Cases.{net_of};
+ghost use Rattle.cif_words.specs.Forms.{StandsFor};
 ghost use Rattle.cif_readers.specs.Tables.{AreReaders};
 ghost use Rattle.cif_shapes.specs.Shapes.{shape_of};
 ghost use Rattle.cif_shapes.specs.CellRules.{rule_of};
@@ -27,6 +29,7 @@ use cif_level::Levels;
 use cif_readers::Readers;
 use cif_shapes::{Rules, TaintRule};
 use cif_stimulus::{StimLine, Stimulus};
+use cif_words::WordForm;
 use std::alloc::{AllocError, Global};
 use std::marker::Model;
 
@@ -43,6 +46,8 @@ pub struct Case {
     readers: Readers,
     // The terms of the taint of each combinational cell.
     rules: Rules,
+    // The form of each narrow combinational cell that has word formulas.
+    forms: Vec<Option<WordForm>>,
 }
 
 impl Model for Case {
@@ -100,6 +105,19 @@ fn rules_of(alloc: Global, netlist: &Netlist) -> Result<Rules, NoMemory>
     Rules::of(alloc, netlist.cells())
 }
 
+/// The forms of a netlist's narrow cells that have word formulas, by cell.
+fn forms_of(alloc: Global, netlist: &Netlist) -> Result<Vec<Option<WordForm>>, AllocError>
+    ensures { IfOk result (λ fs. AreForms (netlist_of netlist.now) fs.items) }
+{
+    let cells = netlist.cells();
+    let mut forms = Vec::with_capacity(alloc, cells.len())?;
+    for i in 0..cells.len() {
+        let cell = &cells[i];
+        forms.push(WordForm::of(cell))?;
+    }
+    Ok(forms)
+}
+
 impl Case {
     /// The case of these parts: the levels are the netlist's, and the stimulus fits it.
     pub fn new(
@@ -118,6 +136,7 @@ impl Case {
         let sources = sources_of(alloc, &netlist)?;
         let readers = Readers::of(alloc, &netlist)?;
         let rules = rules_of(alloc, &netlist)?;
+        let forms = forms_of(alloc, &netlist)?;
         Ok(Case {
             netlist,
             levels,
@@ -127,6 +146,7 @@ impl Case {
             sources,
             readers,
             rules,
+            forms,
         })
     }
 
@@ -198,6 +218,18 @@ impl Case {
         ensures { result.now ≡ shape_of (cell_at (net_of self.now) number) }
     {
         self.rules.of_cell(number as usize)
+    }
+
+    /// The form of a cell, where the cell is narrow and has word formulas.
+    pub(crate) fn form(&self, number: u32) -> Option<WordForm>
+        ensures { MatchOption result ⊤ (λ f. StandsFor f (cell_at (net_of self.now) number)) }
+    {
+        let place = number as usize;
+        if place < self.forms.len() {
+            self.forms[place]
+        } else {
+            None
+        }
     }
 
     /// A cell of the netlist.

@@ -23,10 +23,10 @@ pub next_memory-requires-clause-values : goal.next_memory-requires-clause-values
 next_memory-requires-clause-values c =
     memory_ports c.index-cells-number.result c.deref.result.now (role_read c.index-cells-number.result c.kind.result c.role.result _ c.kind.ensures c.role.ensures c.in-MemoryBlock.is)
     (fitted_read c.args.netlist.now c.cells.result.now c.args.number _ c.cells.ensures.fitted c.cells.ensures.are c.index-cells-number.is c.requires.number)
-    (values_long (bit c.args.values.now) c.index-cells-number.result _ _ c.deref.ensures.value c.in_ok-operands.ensures)
+    (values_long (bit c.args.values.now) c.index-cells-number.result _ _ c.deref.ensures.value c.in_ok-operands-in-MemoryBlock.ensures)
 
 pub next_memory-requires-clause-taints : goal.next_memory-requires-clause-taints
 next_memory-requires-clause-taints c =
-    memory_ports c.index-cells-number.result c.deref-2.result.now (role_read c.index-cells-number.result c.kind.result c.role.result _ c.kind.ensures c.role.ensures c.in-MemoryBlock.is)
+    memory_ports c.index-cells-number.result c.deref-in-MemoryBlock.result.now (role_read c.index-cells-number.result c.kind.result c.role.result _ c.kind.ensures c.role.ensures c.in-MemoryBlock.is)
     (fitted_read c.args.netlist.now c.cells.result.now c.args.number _ c.cells.ensures.fitted c.cells.ensures.are c.index-cells-number.is c.requires.number)
-    (taints_long (bit c.args.taints.now) c.index-cells-number.result _ _ c.deref-2.ensures.value c.in_ok-operand_taints.ensures)
+    (taints_long (bit c.args.taints.now) c.index-cells-number.result _ _ c.deref-in-MemoryBlock.ensures.value c.in_ok-operand_taints-in-MemoryBlock.ensures)

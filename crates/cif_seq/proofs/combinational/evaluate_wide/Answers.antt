@@ -6,7 +6,7 @@ use Rattle.cif_defs.specs.Stimulus.{is_released}
 use Rattle.cif_seq.specs.Cases.{net_of}
 use Rattle.cif_seq.proofs.CaseLaws.{narrow_found, values_found}
 use Rattle.cif_seq.proofs.Found.{outputs_taints_found, outputs_values_found}
-use Rattle.cif_seq.proofs.combinational.evaluate_combinational.Goals as goal
+use Rattle.cif_seq.proofs.combinational.evaluate_wide.Goals as goal
 
 pub value_words-requires : goal.value_words-requires
 value_words-requires c = narrow_found c.cell-cell.result.now _ c.cell-cell.ensures.is c.cell-cell.ensures.fitted c.requires.role

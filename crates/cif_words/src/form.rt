@@ -1,0 +1,67 @@
+// Forms of cells, over all families of kinds.
+ghost use Rattle.std.specs.Prelude.{◌≡◌, MatchOption, ⊤};
+ghost use Rattle.cif_defs.specs.Cells.{meaning};
+ghost use Rattle.cif_defs.specs.Fitted.{IsFitted, operand_widths};
+ghost use Rattle.cif_term.specs.CellTaints.{taint_words};
+ghost use Rattle.word_numbers.specs.HeldWords.{AreNarrow, words_held};
+ghost use Rattle.word_numbers.specs.NarrowCells.{output_widths};
+ghost use Rattle.cif_words.specs.Forms.{StandsFor};
+
+use crate::narrow_ports::has_narrow_ports;
+use cif_kinds::Cell;
+use word_logic::LogicForm;
+use word_numbers::Words;
+
+/// What a narrow combinational cell says beside the words of its operands.
+#[derive(Clone, Copy, Debug, PartialEq, Eq, Drop)]
+pub enum WordForm {
+    /// A bitwise, reducing or wiring cell.
+    Logic(LogicForm),
+}
+
+impl WordForm {
+    /// The form of a cell whose ports have at most 128 bits; None where the cell is wider, or of a kind without word
+    /// formulas.
+    pub fn of(cell: &Cell) -> Option<WordForm>
+        requires { IsFitted cell.now }
+        ensures { MatchOption result ⊤ (λ f. StandsFor f cell.now) }
+    {
+        if !has_narrow_ports(cell) || cell.operands().len() > 4 || cell.outputs().len() > 4 {
+            return None;
+        }
+        if rule_logic::covers(cell.kind()) {
+            return Some(WordForm::Logic(LogicForm::of(cell)));
+        }
+        None
+    }
+
+    /// The words that a cell of this form gives, from the words of its operands.
+    pub fn value_words(&self, cell: &Cell, values: &Words) -> Words
+        requires stands { StandsFor self.now cell.now }
+        requires values { AreNarrow (operand_widths cell.now) values.now }
+        ensures words { words_held (output_widths cell.now) result
+            ≡ meaning cell.now (words_held (operand_widths cell.now) values.now) }
+        ensures narrow { AreNarrow (output_widths cell.now) result }
+    {
+        let _cell = cell;
+        match self {
+            WordForm::Logic(form) => form.value(values),
+        }
+    }
+
+    /// The taints of the words that a cell of this form gives, from the words of its operands and their taints: the exact
+    /// taint of each bit, or the coarse one where the kind has that.
+    pub fn taint_words(&self, cell: &Cell, values: &Words, taints: &Words) -> Words
+        requires stands { StandsFor self.now cell.now }
+        requires values { AreNarrow (operand_widths cell.now) values.now }
+        requires taints { AreNarrow (operand_widths cell.now) taints.now }
+        ensures words { words_held (output_widths cell.now) result ≡ taint_words cell.now
+            (words_held (operand_widths cell.now) values.now) (words_held (operand_widths cell.now) taints.now) }
+        ensures narrow { AreNarrow (output_widths cell.now) result }
+    {
+        let _cell = cell;
+        match self {
+            WordForm::Logic(form) => form.taint(values, taints),
+        }
+    }
+}
