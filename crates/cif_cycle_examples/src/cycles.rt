@@ -7,7 +7,7 @@ use cif_cells::Netlist;
 use cif_json::read_netlist;
 use cif_level::levels;
 use cif_seq::{Case, Frame, first_frame, next_frame};
-use cif_stim::read_stimulus;
+use cif_stim_read::read_stimulus;
 use std::alloc::Global;
 use std::process::Abort;
 use std::sync::Arc;

@@ -3,7 +3,7 @@
 
 use cif_cells::{Cell, Param, Role, table};
 use cif_seq::Frame;
-use cif_stim::Pair;
+use cif_stimulus::Pair;
 use std::alloc::{AllocError, Global};
 
 /// How many words a cell stores: one of a register, those of a memory, else none.

@@ -4,7 +4,7 @@ ghost use Rattle.cif_cycle_examples.specs.Groups.{IsUnbegun, IsAt};
 
 use cif_bits::{Bits, NoMemory};
 use cif_cells::{Name, Wire};
-use cif_stim::Stimulus;
+use cif_stimulus::Stimulus;
 use std::alloc::Global;
 
 /// A name.

@@ -3,7 +3,9 @@
 use crate::made::with_each_line;
 use cif_cells::{Found, Netlist};
 use cif_json::read_netlist;
-use cif_stim::{Pair, Stimulus, read_stimulus, write_stimulus};
+use cif_stim_read::read_stimulus;
+use cif_stim_write::write_stimulus;
+use cif_stimulus::{Pair, Stimulus};
 use std::alloc::Global;
 use std::process::Abort;
 use std::test::Fail;
