@@ -1,10 +1,8 @@
-// What a stimulus that is made by calls gives, and its text.
+// What a stimulus that is made by calls gives.
 
 use crate::made::with_each_line;
 use cif_cells::{Found, Netlist};
 use cif_json::read_netlist;
-use cif_stim_read::read_stimulus;
-use cif_stim_write::write_stimulus;
 use cif_stimulus::{Pair, Stimulus};
 use std::alloc::Global;
 use std::process::Abort;
@@ -13,7 +11,7 @@ use std::test::Fail;
 /// A register `r` and a memory `m`, whose rows stand at addresses 5 to 7, each of two bits, and the input ports `clk` and `d`.
 /// The net bits are those of the clock, of `d`, of the register and of the read port, in this order; `w` is a 1 and the
 /// register's bits.
-const NETLIST: &str = r#"{"modules":{"m":{"ports":{
+pub const NETLIST: &str = r#"{"modules":{"m":{"ports":{
  "clk":{"direction":"input","bits":[2]},
  "d":{"direction":"input","bits":[3,4]}},
 "cells":{
@@ -24,37 +22,18 @@ const NETLIST: &str = r#"{"modules":{"m":{"ports":{
  "r":{"type":"$dff","parameters":{"CLK_POLARITY":1,"WIDTH":2},"connections":{"CLK":[2],"D":[3,4],"Q":[5,6]}}},
 "netnames":{"w":{"bits":["1",5,6]}}}}}"#;
 
-/// What is written of it.
-const TEXT: &str =
-    "cellift-stimulus 2\ncycles 3\nrelease w\nreg r 10 01\nmem m 5 01 10\n@ 1\nset d 11 01\n";
-
 /// The netlist of a text.
-fn netlist_of(rt: &impl Abort, alloc: Global, text: &str) -> Netlist {
+pub fn netlist_of(rt: &impl Abort, alloc: Global, text: &str) -> Netlist {
     let module = read_netlist(alloc, text.as_bytes()).expect(rt, "the text is refused");
     Netlist::build(alloc, module).expect(rt, "the module is refused")
 }
 
 /// The stimulus with a line of each sort.
-fn stimulus(rt: &impl Abort, alloc: Global, netlist: &Netlist) -> Result<Stimulus, Fail> {
+pub fn stimulus(rt: &impl Abort, alloc: Global, netlist: &Netlist) -> Result<Stimulus, Fail> {
     match netlist.find(b"w") {
         Found::Wire(wire) => Ok(with_each_line(alloc, wire)?),
         Found::NotTwoValued | Found::Missing => panic!(rt; "no wire"),
     }
-}
-
-/// It is written, read and written again.
-#[test]
-fn written_and_read(rt: HostRuntime) -> Result<(), Fail> {
-    let alloc = rt.alloc();
-    let netlist = netlist_of(&rt, alloc, NETLIST);
-    let stimulus = stimulus(&rt, alloc, &netlist)?;
-    assert!(rt; stimulus.fits(&netlist));
-    let text = write_stimulus(alloc, &stimulus)?;
-    assert_eq!(rt; text.as_slice(), TEXT.as_bytes());
-    let again = read_stimulus(alloc, &netlist, &text)?;
-    let text = write_stimulus(alloc, &again)?;
-    assert_eq!(rt; text.as_slice(), TEXT.as_bytes());
-    Ok(())
 }
 
 /// A bit and its taint, each as a digit.
