@@ -1,8 +1,8 @@
 -- Words of bitwise operations on numbers, as kinds give them.
-use Rattle.std.specs.Prelude.{ℕ, ◌≤◌, ◌<◌, ◌≡◌, ◌≢◌, ◌-◌, ◌^◌, Bool, true, false, not, ◌&&◌, ◌||◌, bit_and, bit_or, bit_xor, length, refl}
-use Rattle.std.proofs.Common.{arith, sym, ap, ◌∙◌}
+use Rattle.std.specs.Prelude.{ℕ, ◌<◌, ◌≡◌, ◌≢◌, Bool, true, false, not, ◌&&◌, ◌||◌, bit_and, bit_or, bit_xor, refl}
+use Rattle.std.proofs.Common.{sym, ap, ◌∙◌}
 use Rattle.cif_defs.specs.Coarse.{max_word, min_word}
-use Rattle.cif_defs.specs.Meanings.{and_word, not_word, or_word, xnor_word, xor_word}
+use Rattle.cif_defs.specs.Meanings.{not_word}
 use Rattle.cif_defs.specs.Words.{Word, bit, digit, extend, extended_bit, word, word_of, xor}
 use Rattle.cif_defs.specs.declared.kinds.Kind.{Kind}
 use Rattle.cif_defs.specs.declared.kinds.Kind.TheVariants.{And, LogicAnd, LogicOr, Or, Xnor, Xor}

@@ -1,6 +1,6 @@
 -- Taints of bitwise kinds on numbers.
 use Rattle.std.specs.Prelude.{ℕ, ◌≤◌, ◌<◌, ◌≡◌, ◌-◌, ◌^◌, Bool, true, false, not, ◌&&◌, ◌||◌, bit_and, bit_or}
-use Rattle.std.proofs.Common.{arith, sym, ap, ◌∙◌}
+use Rattle.std.proofs.Common.{sym, ap, ◌∙◌}
 use Rattle.std.proofs.lemmas.Nat.{or_lt}
 use Rattle.cif_defs.specs.Words.{Word, bit, extend, extended_bit, word, word_of}
 use Rattle.cif_defs.specs.declared.kinds.Kind.{Kind}

@@ -1,5 +1,5 @@
 -- Words of outputs that numbers hold.
-use Rattle.std.specs.Prelude.{ℕ, ◌<◌, ◌≤◌, ◌≡◌, ◌-◌, ◌+◌, ◌^◌, List, [], ◌∷◌, map, length}
+use Rattle.std.specs.Prelude.{ℕ, ◌<◌, ◌≤◌, ◌≡◌, ◌-◌, ◌+◌, ◌^◌, [], ◌∷◌, map, length}
 use Rattle.std.proofs.Common.{arith, sym, ap, subst, ◌∙◌}
 use Rattle.std.proofs.Math.Pow.{pow_mono}
 use Rattle.cif_defs.specs.Words.{Word, digit, word_of}
@@ -7,7 +7,7 @@ use Rattle.cif_defs.specs.Cells.{Cell, meaning}
 use Rattle.cif_defs.specs.Fitted.{operand_widths}
 use Rattle.cif_defs.proofs.WordLaws.{length-word}
 use Rattle.cif_term.specs.CellTaints.{AreOperands, taint_words}
-use Rattle.word_numbers.specs.HeldWords.{AreNarrow, held, words_held}
+use Rattle.word_numbers.specs.HeldWords.{AreNarrow, words_held}
 use Rattle.word_numbers.specs.declared.words.Words.{Words}
 use Rattle.word_numbers.specs.NarrowCells.{output_widths}
 use Rattle.word_logic.specs.declared.form.LogicForm.{LogicForm}

@@ -1,6 +1,5 @@
 -- What the form of a cell says of the cell.
-use Rattle.std.specs.Prelude.{ℕ, ◌+◌, ◌≤◌, ◌≡◌, Bool, true, List, [], ◌∷◌, map, length, refl}
-use Rattle.std.specs.List.{range_with_len}
+use Rattle.std.specs.Prelude.{ℕ, ◌+◌, ◌≤◌, ◌≡◌, true, List, [], ◌∷◌, map, refl}
 use Rattle.std.proofs.Common.{arith, sym, ap, subst, ◌∙◌}
 use Rattle.cif_defs.specs.Cells.{Cell, a_signed, both_signed, meaning, number_of, width, words_by, y_width}
 use Rattle.cif_defs.specs.Fitted.{IsFitted, IsWithin, operand_widths, row_width}

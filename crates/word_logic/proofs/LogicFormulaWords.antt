@@ -10,7 +10,7 @@ use Rattle.cif_defs.specs.Cells.{Cell, a_signed, both_signed, number_of, y_width
 use Rattle.cif_defs.specs.Fitted.{IsFitted}
 use Rattle.cif_defs.specs.Meanings.{concat_word, slice_word}
 use Rattle.cif_defs.specs.Table.{outputs_of}
-use Rattle.cif_defs.specs.Words.{Word, bit, extended_bit, has_one, is_all_ones, majority, operand, word}
+use Rattle.cif_defs.specs.Words.{Word, bit, extended_bit, has_one, majority, operand, word}
 use Rattle.cif_defs.specs.declared.kinds.Kind.{Kind}
 use Rattle.cif_defs.specs.declared.kinds.Kind.TheVariants.{Not as NotKind, Pos, And as AndKind, Or as OrKind, Xor, Xnor, ReduceAnd as ReduceAndKind, ReduceOr as ReduceOrKind, ReduceXor, ReduceXnor, ReduceBool, LogicNot, LogicAnd, LogicOr}
 use Rattle.cif_defs.specs.declared.kinds.Param.TheVariants.{AWidth}
@@ -19,7 +19,7 @@ use Rattle.cif_defs.proofs.Numbers.{word-same}
 use Rattle.cif_defs.proofs.WordLaws.{length-word}
 use Rattle.cif_term.specs.declared.ops.Op1.TheVariants.{Not, ReduceAnd, ReduceOr}
 use Rattle.cif_term.specs.declared.ops.Op2.TheVariants.{And, Or}
-use Rattle.cif_term.specs.Formulas.{Formula, Value, Taint, One, Two, picked, value_of, values_of}
+use Rattle.cif_term.specs.Formulas.{Formula, Taint, One, Two, picked, value_of, values_of}
 use Rattle.cif_term.specs.CellTaints.{AreOperands, taint_words}
 use Rattle.cif_term.proofs.OutputTerms.{values_are_taints}
 use Rattle.cif_term.proofs.Values.{value-and, value-extended, value-not, value-or}
@@ -72,7 +72,7 @@ at_c c v i = extended_bit (both_signed c) i v
 -- a formula of both operands, and its value by places
 shown_value : (c : Cell) (v w x z : Word) (f g : Formula) (p q : ℕ → Bool) → AreExtended c v w x z → value_of f (v ∷ w ∷ []) (x ∷ z ∷ []) [] ≡ word (y_width c) p → value_of g (v ∷ w ∷ []) (x ∷ z ∷ []) [] ≡ word (y_width c) q
     → value_of (Two Or (Two And (tx_at c) (ty_at c)) (Two Or (Two And (tx_at c) g) (Two And (ty_at c) f))) (v ∷ w ∷ []) (x ∷ z ∷ []) []
-        ≡ word (y_width c) (λ i. (at_c c x i && at_c c z i) || ((at_c c x i && q i) || (at_c c z i && p i)))
+    ≡ word (y_width c) (λ i. (at_c c x i && at_c c z i) || ((at_c c x i && q i) || (at_c c z i && p i)))
 shown_value c v w x z f g p q e a b =
     let vs : List Word = v ∷ w ∷ [] in
     let ts : List Word = x ∷ z ∷ [] in

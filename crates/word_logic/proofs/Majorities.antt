@@ -1,13 +1,13 @@
 -- Majorities and parities on numbers.
-use Rattle.std.specs.Prelude.{ℕ, ◌≤◌, ◌<◌, ◌≡◌, ◌^◌, Bool, true, false, not, ◌&&◌, ◌||◌, bit_and, bit_or, bit_xor, length, refl}
-use Rattle.std.proofs.Common.{arith, sym, ap, ◌∙◌}
+use Rattle.std.specs.Prelude.{ℕ, ◌<◌, ◌≡◌, ◌^◌, Bool, true, false, not, ◌&&◌, ◌||◌, bit_and, bit_or, bit_xor, length, refl}
+use Rattle.std.proofs.Common.{arith, ap, ◌∙◌}
 use Rattle.std.proofs.lemmas.Nat.{or_lt, xor_lt}
 use Rattle.cif_defs.specs.Coarse.{max_word, min_word}
 use Rattle.cif_defs.specs.Meanings.{fa_majority_word, fa_sum_word, not_word}
 use Rattle.cif_defs.specs.Words.{Word, bit, digit, majority, word, word_of, xor}
 use Rattle.cif_defs.proofs.Numbers.{word-same}
 use Rattle.cif_defs.proofs.WordLaws.{bit-word, length-word}
-use Rattle.word_logic.specs.LogicWords.{carry_taint, highest_carry, lowest_carry, parity_taint}
+use Rattle.word_logic.specs.LogicWords.{highest_carry, lowest_carry, parity_taint}
 use Rattle.word_numbers.proofs.Digits.{and_lt, word_of-and_by, word_of-or_by, word_of-xor_by}
 use Rattle.word_logic.proofs.Bitwise.{by_bits, own_bits}
 

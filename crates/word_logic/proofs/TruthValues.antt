@@ -3,7 +3,7 @@ use Rattle.std.specs.Prelude.{ℕ, ◌≡◌, Bool, true, false, not, ◌&&◌, 
 use Rattle.std.proofs.Common.{sym, ap, ◌∙◌}
 use Rattle.cif_defs.specs.Coarse.{max_word, min_word}
 use Rattle.cif_defs.specs.Meanings.{not_word}
-use Rattle.cif_defs.specs.Words.{Word, bit, extend, extended_bit, flag_word, has_one, word, word_of}
+use Rattle.cif_defs.specs.Words.{Word, extend, flag_word, has_one, word_of}
 use Rattle.cif_defs.specs.declared.kinds.Kind.{Kind}
 use Rattle.cif_defs.specs.declared.kinds.Kind.TheVariants.{LogicAnd, LogicOr, Not}
 use Rattle.cif_defs.proofs.Numbers.{word-same}

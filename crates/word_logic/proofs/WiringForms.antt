@@ -1,13 +1,13 @@
 -- Forms of $concat, $slice and $fa: what numbers have to be, and what they hold.
-use Rattle.std.specs.Prelude.{ℕ, ◌<◌, ◌≤◌, ◌≡◌, ◌-◌, ◌+◌, ◌^◌, List, [], ◌∷◌}
+use Rattle.std.specs.Prelude.{ℕ, ◌<◌, ◌≡◌, ◌-◌, ◌+◌, ◌^◌, [], ◌∷◌}
 use Rattle.std.proofs.Common.{sym, subst}
-use Rattle.cif_defs.specs.Words.{Word, word_of}
+use Rattle.cif_defs.specs.Words.{word_of}
 use Rattle.cif_defs.specs.Meanings.{concat_word, slice_word}
 use Rattle.word_numbers.specs.HeldWords.{AreNarrow, words_held}
 use Rattle.word_numbers.specs.declared.words.Words.{Words}
 use Rattle.word_logic.specs.declared.form.LogicForm.{LogicForm}
 use Rattle.word_logic.specs.declared.form.LogicForm.TheVariants.{Joined, Sliced, Adder}
-use Rattle.word_logic.specs.LogicForms.{IsJoin, IsPart, IsSound, IsWidth, form_operands, form_outputs, form_taints, form_words}
+use Rattle.word_logic.specs.LogicForms.{IsJoin, IsSound, form_operands, form_outputs, form_taints, form_words}
 use Rattle.word_logic.specs.LogicWords.{carry_taint, parity_taint}
 use Rattle.word_logic.proofs.HeldOutputs.{one_held, room_above, two_held}
 

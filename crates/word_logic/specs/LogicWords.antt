@@ -1,8 +1,8 @@
 -- The words that bitwise, reducing and wiring kinds give, and their taints: over operand words, and over their taints.
-use Rattle.std.specs.Prelude.{ℕ, Bool, true, false, not, ◌&&◌, ◌||◌, List, [], ◌∷◌}
+use Rattle.std.specs.Prelude.{ℕ, Bool, true, false, not, ◌&&◌, ◌||◌, []}
 use Rattle.cif_defs.specs.Coarse.{max_word, min_word}
-use Rattle.cif_defs.specs.Words.{Word, bit, word, extend, extended_bit, flag_word, has_one, is_all_ones, majority, operand}
-use Rattle.cif_defs.specs.Meanings.{not_word, pos_word, and_word, or_word, xor_word, xnor_word, reduce_and_word, reduce_or_word, reduce_xor_word, reduce_xnor_word, logic_not_word, logic_and_word, logic_or_word, concat_word, slice_word, fa_majority_word, fa_sum_word}
+use Rattle.cif_defs.specs.Words.{Word, bit, word, extend, extended_bit, flag_word, has_one, is_all_ones, majority}
+use Rattle.cif_defs.specs.Meanings.{not_word, pos_word, and_word, or_word, xor_word, xnor_word, reduce_and_word, reduce_or_word, reduce_xor_word, reduce_xnor_word, logic_not_word, logic_and_word, logic_or_word}
 use Rattle.cif_defs.specs.declared.kinds.Kind.{Kind}
 use Rattle.cif_defs.specs.declared.kinds.Kind.TheVariants.{Not, Pos, And, Or, Xor, Xnor, ReduceAnd, ReduceOr, ReduceXor, ReduceXnor, ReduceBool, LogicNot, LogicAnd, LogicOr}
 
