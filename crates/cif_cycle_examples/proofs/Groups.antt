@@ -1,12 +1,11 @@
 -- Lines added one after another.
-use Rattle.std.specs.Prelude.{ℕ, ◌≡◌, ◌<◌, nat_lt, ◌&&◌, ◌==◌, not, true, List, [], ◌∷◌, length, reverse, Option, Some, None, is_some, refl}
-use Rattle.std.proofs.Common.{arith, ap, ◌∙◌}
-use Rattle.std.proofs.lemmas.Bool.Decides.{nat_tests}
+use Rattle.std.specs.Prelude.{ℕ, ◌≡◌, not, true, List, ◌∷◌, length, reverse, is_some}
+use Rattle.std.proofs.Common.{ap, ◌∙◌}
 use Rattle.cif_defs.specs.Words.{digit, word_of}
 use Rattle.cif_defs.proofs.WordLaws.{length-word}
 use Rattle.cif_defs.specs.Stimulus.{Stimulus as StimulusData, StimLine as LineData, TaintedWord, reg_line, mem_line, release_line, cycle_line, set_line}
 use Rattle.cif_defs.specs.declared.nets.Src.{Src}
-use Rattle.cif_stimulus.specs.Places.{open_cycle, may_add, is_written, is_word}
+use Rattle.cif_stimulus.specs.Places.{open_cycle, may_add}
 use Rattle.cif_stimulus.specs.StimulusView.{Adds}
 use Rattle.cif_stimulus.proofs.LineOrder.{reverse_push}
 use Rattle.cif_cycle_examples.specs.Groups.{IsUnbegun, IsAt}

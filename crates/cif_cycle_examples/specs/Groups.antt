@@ -1,5 +1,5 @@
 -- Whether the lines of a stimulus have come to a group of sets.
-use Rattle.std.specs.Prelude.{ℕ, ◌≡◌, reverse, Option, Some, None}
+use Rattle.std.specs.Prelude.{ℕ, ◌≡◌, reverse, Some, None}
 use Rattle.cif_defs.specs.Stimulus.{Stimulus as StimulusData}
 use Rattle.cif_stimulus.specs.Places.{open_cycle}
 

@@ -1,5 +1,5 @@
 -- Words of bitwise operations on numbers, as kinds give them.
-use Rattle.std.specs.Prelude.{ℕ, ◌<◌, ◌≡◌, ◌≢◌, ◌-◌, Bool, true, false, not, ◌&&◌, ◌||◌, bit_and, bit_or, bit_xor, refl}
+use Rattle.std.specs.Prelude.{ℕ, ◌<◌, ◌≡◌, ◌≢◌, Bool, true, false, not, ◌&&◌, ◌||◌, bit_and, bit_or, bit_xor, refl}
 use Rattle.std.proofs.Common.{sym, ap, ◌∙◌}
 use Rattle.cif_defs.specs.Coarse.{max_word, min_word}
 use Rattle.cif_defs.specs.Meanings.{not_word}

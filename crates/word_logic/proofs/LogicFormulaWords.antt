@@ -72,7 +72,7 @@ at_c c v i = extended_bit (both_signed c) i v
 -- a formula of both operands, and its value by places
 shown_value : (c : Cell) (v w x z : Word) (f g : Formula) (p q : ℕ → Bool) → AreExtended c v w x z → value_of f (v ∷ w ∷ []) (x ∷ z ∷ []) [] ≡ word (y_width c) p → value_of g (v ∷ w ∷ []) (x ∷ z ∷ []) [] ≡ word (y_width c) q
     → value_of (Two Or (Two And (tx_at c) (ty_at c)) (Two Or (Two And (tx_at c) g) (Two And (ty_at c) f))) (v ∷ w ∷ []) (x ∷ z ∷ []) []
-        ≡ word (y_width c) (λ i. (at_c c x i && at_c c z i) || ((at_c c x i && q i) || (at_c c z i && p i)))
+    ≡ word (y_width c) (λ i. (at_c c x i && at_c c z i) || ((at_c c x i && q i) || (at_c c z i && p i)))
 shown_value c v w x z f g p q e a b =
     let vs : List Word = v ∷ w ∷ [] in
     let ts : List Word = x ∷ z ∷ [] in

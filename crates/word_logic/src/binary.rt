@@ -95,7 +95,13 @@ fn logic_taint(kind: Kind, a: &Chance, b: &Chance) -> bool
 }
 
 /// The taint of a bitwise cell from its first two operands.
-fn extended_taint(kind: Kind, shown: &Extension, b_width: u32, values: &Words, taints: &Words) -> u128
+fn extended_taint(
+    kind: Kind,
+    shown: &Extension,
+    b_width: u32,
+    values: &Words,
+    taints: &Words,
+) -> u128
     requires form { IsBinaryForm kind shown.now b_width }
     requires kind { is_bitwise kind ≡ true }
     requires a_fits { values.now.a < 2 ^ shown.now.from }
@@ -114,7 +120,13 @@ fn extended_taint(kind: Kind, shown: &Extension, b_width: u32, values: &Words, t
 }
 
 /// The taint of what a cell gives from its first two operands.
-pub fn binary_taint(kind: Kind, shown: &Extension, b_width: u32, values: &Words, taints: &Words) -> u128
+pub fn binary_taint(
+    kind: Kind,
+    shown: &Extension,
+    b_width: u32,
+    values: &Words,
+    taints: &Words,
+) -> u128
     requires form { IsBinaryForm kind shown.now b_width }
     requires a_fits { values.now.a < 2 ^ shown.now.from }
     requires b_fits { values.now.b < 2 ^ b_width }

@@ -69,7 +69,7 @@ impl LogicForm {
         requires taints { AreNarrow (form_operands self.now) taints.now }
         ensures words { words_held (form_outputs self.now) result
             ≡ form_taints self.now (words_held (form_operands self.now) values.now)
-                (words_held (form_operands self.now) taints.now) }
+            (words_held (form_operands self.now) taints.now) }
         ensures narrow { AreNarrow (form_outputs self.now) result }
     {
         match *self {
@@ -106,7 +106,7 @@ impl LogicForm {
         requires taints { AreNarrow (form_operands self.now) taints.now }
         ensures words { (c : CellData) → StandsFor self.now c
             → words_held (output_widths c) result
-                ≡ taint_words c (words_held (operand_widths c) values.now) (words_held (operand_widths c) taints.now) }
+            ≡ taint_words c (words_held (operand_widths c) values.now) (words_held (operand_widths c) taints.now) }
         ensures narrow { AreNarrow (form_outputs self.now) result }
     {
         self.taints(values, taints)
