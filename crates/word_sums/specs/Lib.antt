@@ -1,0 +1,2 @@
+pub mod BoundNumbers
+pub mod SumNumbers
