@@ -1,0 +1,4 @@
+pub mod Digits
+pub mod FlagLaws
+pub mod MaskLaws
+pub mod MoveLaws
