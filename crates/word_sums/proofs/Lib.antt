@@ -1,2 +1,4 @@
 pub mod HeldNumbers
 pub mod BoundLaws
+pub mod SumLaws
+pub mod SumTaintLaws

@@ -1,2 +1,3 @@
 pub mod BoundNumbers
 pub mod SumNumbers
+pub mod Operands

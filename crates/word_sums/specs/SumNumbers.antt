@@ -1,5 +1,7 @@
 -- The taint of sums, on numbers.
 use Rattle.std.specs.Prelude.{ℕ, ◌+◌, ◌%◌, ◌^◌, nat_lt, Bool, true, false, bit_or, bit_xor, if◌then◌else◌}
+use Rattle.cif_defs.specs.Words.{bit_value}
+use Rattle.word_sums.specs.declared.sums.Carry.{Carry}
 use Rattle.word_sums.specs.declared.sums.Summand.{Summand}
 use Rattle.word_sums.specs.declared.sums.Sums.{Sums}
 use Rattle.word_sums.specs.BoundNumbers.{bits_below, bounds_of, side_of}
@@ -28,7 +30,7 @@ cases_number first second g =
 -- the sum at the least or the greatest words, in the case where the one sign is p and the other q
 abbrev pub sum_number : Sums → Bool → Bool → Bool → ℕ
 sum_number s upper p q =
-    (side_of s.width s.first_start upper p s.first + side_of s.width s.second_start upper q s.second + (if upper then s.carry.greatest else s.carry.least)) % 2 ^ s.width
+    (side_of s.width s.first_start upper p s.first + side_of s.width s.second_start upper q s.second + bit_value (if upper then s.carry.greatest else s.carry.least)) % 2 ^ s.width
 
 abbrev pub second_case : Sums → Bool → ℕ
 second_case s p = second_number (nat_lt s.second_start s.width) (sum_number s) p
@@ -36,18 +38,25 @@ second_case s p = second_number (nat_lt s.second_start s.width) (sum_number s) p
 abbrev pub sums_number : Sums → ℕ
 sums_number s = cases_number (nat_lt s.first_start s.width) (nat_lt s.second_start s.width) (sum_number s)
 
--- the sums of the bounds of two summands of n bits, with no carry in
-abbrev pub plain_sums : ℕ → Summand → Summand → Sums
-plain_sums n x y = record {
+-- the sums of the bounds of two summands of n bits
+abbrev pub sums_between : ℕ → Summand → Summand → Carry → Sums
+sums_between n x y carry = record {
   width = n;
   first = bounds_of n x.value x.taint;
   first_start = x.start;
   second = bounds_of n y.value y.taint;
   second_start = y.start;
-  carry = record { least = 0; greatest = 0 };
+  carry = carry;
 }
+
+abbrev pub no_carry : Carry
+no_carry = record { least = false; greatest = false }
+
+-- the taint of both summands that is no sign's
+abbrev pub single_taint : ℕ → Summand → Summand → ℕ
+single_taint n x y = bit_or (bits_below n x.start x.taint) (bits_below n y.start y.taint)
 
 -- the taint of the sum of two summands of n bits: where a tainted bit stands that is no sign, and where the sums of
 -- bounds differ
 abbrev pub sum_taint_number : ℕ → Summand → Summand → ℕ
-sum_taint_number n x y = bit_or (bit_or (bits_below n x.start x.taint) (bits_below n y.start y.taint)) (sums_number (plain_sums n x y))
+sum_taint_number n x y = bit_or (single_taint n x y) (sums_number (sums_between n x y no_carry))

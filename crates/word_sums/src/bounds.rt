@@ -2,7 +2,7 @@
 ghost use Rattle.std.specs.Prelude.{◌≡◌, ◌-◌, ◌^◌, ◌<◌, ◌≤◌, if◌then◌else◌};
 ghost use Rattle.word_sums.specs.BoundNumbers.{bits_below, bounds_of, side_of};
 
-use crate::base::{complement, lowest, mask};
+use word_numbers::{complement, mask};
 
 /// The words between which a word with taint lies: its bits where each tainted one is 0, and where each is 1.
 #[derive(Clone, Copy, Debug, PartialEq, Eq, Drop)]

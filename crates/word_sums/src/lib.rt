@@ -1,9 +1,12 @@
 //! Values and taints of sums.
 #![tactic(auto)]
 
-mod base;
 mod bounds;
+mod shape;
+mod sum_taints;
 mod sums;
 
 pub use bounds::{Bounds, below};
-pub use sums::{Summand, Sums, sum_taint};
+pub use shape::{Pair, Shape, order_start, sign_start, summand};
+pub use sum_taints::{add_taint, neg_taint, sub_taint};
+pub use sums::{Carry, Summand, Sums, single_taint, sum_taint};
