@@ -2,3 +2,4 @@ pub mod HeldNumbers
 pub mod BoundLaws
 pub mod SumLaws
 pub mod SumTaintLaws
+pub mod ValueLaws

@@ -1,5 +1,6 @@
 -- The operands of a cell, and the taint that a formula gives for them.
-use Rattle.std.specs.Prelude.{ℕ, ◌^◌, ◌<◌, Bool, List, [], ◌∷◌}
+use Rattle.std.specs.Prelude.{ℕ, ◌^◌, ◌<◌, Bool, List, [], ◌∷◌, ℤ}
+use Rattle.cif_defs.specs.Meanings.{compared}
 use Rattle.cif_defs.specs.Words.{Word, word_of}
 use Rattle.cif_term.specs.Formulas.{Formula, value_of}
 use Rattle.word_sums.specs.declared.shape.Pair.{Pair}
@@ -21,3 +22,13 @@ taint_of f s values taints = value_of (f s.y s.signed s.a s.b) (pair_words s val
 -- the same for a cell with operand A alone
 unfoldable pub taint_of_one : (ℕ → Bool → ℕ → Formula) → Shape → ℕ → ℕ → Word
 taint_of_one f s value taint = value_of (f s.y s.signed s.a) (word_of s.a value ∷ []) (word_of s.a taint ∷ []) []
+
+-- ---- values
+
+-- the row of a kind with two operands
+abbrev pub row_of : (ℕ → Bool → Word → Word → Word) → Shape → Pair → Word
+row_of f s x = f s.y s.signed (word_of s.a x.a) (word_of s.b x.b)
+
+-- a comparison of A and B
+unfoldable pub compared_of : (ℤ → ℤ → Bool) → Shape → Pair → Bool
+compared_of f s x = compared f s.signed (word_of s.a x.a) (word_of s.b x.b)
