@@ -1,3 +1,4 @@
 pub mod BoundNumbers
 pub mod SumNumbers
 pub mod Operands
+pub mod OrderNumbers

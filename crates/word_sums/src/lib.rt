@@ -2,12 +2,14 @@
 #![tactic(auto)]
 
 mod bounds;
+mod orders;
 mod shape;
 mod sum_taints;
 mod sums;
 mod values;
 
 pub use bounds::{Bounds, below};
+pub use orders::{equal_taint, greater_taint, less_taint};
 pub use shape::{Pair, Shape, order_start, sign_start, summand};
 pub use sum_taints::{add_taint, neg_taint, sub_taint};
 pub use sums::{Carry, Summand, Sums, single_taint, sum_taint};

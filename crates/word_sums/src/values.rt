@@ -154,7 +154,7 @@ pub fn larger_width(shape: Shape) -> u32
 /// Whether the number of A is less than that of B.
 pub fn is_less(shape: Shape, values: Pair) -> bool
     requires values { IsPairOf shape values }
-    ensures less { result ≡ compared_of int_lt shape values }
+    ensures { result ≡ compared_of int_lt shape values }
 {
     let width = larger_width(shape);
     let numbers = extended_pair(width, shape, values);
@@ -164,7 +164,7 @@ pub fn is_less(shape: Shape, values: Pair) -> bool
 /// Whether the number of A is greater than that of B.
 pub fn is_greater(shape: Shape, values: Pair) -> bool
     requires values { IsPairOf shape values }
-    ensures greater { not result ≡ compared_of int_le shape values }
+    ensures { not result ≡ compared_of int_le shape values }
 {
     let width = larger_width(shape);
     let numbers = extended_pair(width, shape, values);
