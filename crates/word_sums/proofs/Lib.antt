@@ -3,3 +3,4 @@ pub mod BoundLaws
 pub mod SumLaws
 pub mod SumTaintLaws
 pub mod ValueLaws
+pub mod OrderLaws
