@@ -54,7 +54,7 @@ holds_not {n = n} {x = x} {y = y} {p = p} e h = record { bits = λ i l. (let k :
 pub holds_same : {n x : ℕ} {p q : ℕ → Bool} → Holds n x p → ((i : ℕ) → i < n → p i ≡ q i) → Holds n x q
 holds_same h k = record { bits = λ i l. h.bits i l ∙ k i l }
 
-ones_digit : (k i : ℕ) → (i < k) ⊎ (k ≤ i) → digit (2 ^ k - 1) i ≡ nat_lt i k
+pub ones_digit : (k i : ℕ) → (i < k) ⊎ (k ≤ i) → digit (2 ^ k - 1) i ≡ nat_lt i k
 ones_digit k i (inl h) = (let e : bit_at (2 ^ k - 1) i ≡ 1 = bit_at_ones k i h in let t : nat_lt i k ≡ true = grind (arith, nat_tests) in ap (λ x. x == 1) e ∙ sym t)
 ones_digit k i (inr h) = (let e : bit_at (2 ^ k - 1) i ≡ 0 = bit_at_ones_above k i h in let t : nat_lt i k ≡ false = grind (arith, nat_tests) in ap (λ x. x == 1) e ∙ sym t)
 

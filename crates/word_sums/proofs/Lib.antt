@@ -4,3 +4,4 @@ pub mod SumLaws
 pub mod SumTaintLaws
 pub mod ValueLaws
 pub mod OrderLaws
+pub mod CoarseLaws

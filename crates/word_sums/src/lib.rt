@@ -2,6 +2,7 @@
 #![tactic(auto)]
 
 mod bounds;
+mod coarse;
 mod orders;
 mod shape;
 mod sum_taints;
@@ -9,6 +10,7 @@ mod sums;
 mod values;
 
 pub use bounds::{Bounds, below};
+pub use coarse::{division_taint, product_taint, quotient_taint};
 pub use orders::{equal_taint, greater_taint, less_taint};
 pub use shape::{Pair, Shape, order_start, sign_start, summand};
 pub use sum_taints::{add_taint, neg_taint, sub_taint};
