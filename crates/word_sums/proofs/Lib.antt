@@ -5,3 +5,4 @@ pub mod SumTaintLaws
 pub mod ValueLaws
 pub mod OrderLaws
 pub mod CoarseLaws
+pub mod KindLaws

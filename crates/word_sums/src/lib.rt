@@ -1,18 +1,20 @@
-//! Values and taints of sums.
+//! Values and taints of sums, products, divisions and comparisons, of at most 128 bits a port, without memory.
+//!
+//! A cell is made ready once, as a `Form`: its kind and widths. A form gives the words of the cell's outputs, and their
+//! taint, from numbers that hold the operands' words and taints. The words are those of the cell's meaning, and the
+//! taint is the cell's: exact for `$add $sub $neg $lt $le $ge $gt $eq $ne $eqx $nex`, coarse for `$mul $div $mod
+//! $divfloor $modfloor`. No call takes memory, and none refuses.
 #![tactic(auto)]
 
 mod bounds;
 mod coarse;
+mod form;
+mod kinds;
 mod orders;
 mod shape;
 mod sum_taints;
 mod sums;
 mod values;
 
-pub use bounds::{Bounds, below};
-pub use coarse::{division_taint, product_taint, quotient_taint};
-pub use orders::{equal_taint, greater_taint, less_taint};
-pub use shape::{Pair, Shape, order_start, sign_start, summand};
-pub use sum_taints::{add_taint, neg_taint, sub_taint};
-pub use sums::{Carry, Summand, Sums, single_taint, sum_taint};
-pub use values::{add_value, div_value, divfloor_value, is_equal, is_greater, is_less, larger_width, mod_value, modfloor_value, mul_value, neg_value, sub_value};
+pub use form::Form;
+pub use shape::Shape;
