@@ -6,3 +6,4 @@ pub mod ValueLaws
 pub mod OrderLaws
 pub mod CoarseLaws
 pub mod KindLaws
+pub mod FormLaws

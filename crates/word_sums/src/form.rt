@@ -1,6 +1,7 @@
 // A cell made ready: its kind and widths, read once.
-ghost use Rattle.std.specs.Prelude.{◌≡◌, ◌^◌, ◌<◌, true};
-ghost use Rattle.word_sums.specs.Covered.{covers_numbers};
+ghost use Rattle.std.specs.Prelude.{◌≡◌, ◌≤◌, true, false};
+ghost use Rattle.cif_defs.specs.Cells.{number_of};
+ghost use Rattle.word_sums.specs.Covered.{covers_numbers, is_neg};
 
 use crate::kinds::{binary_taint, binary_value};
 use crate::shape::{Pair, Shape};
@@ -17,13 +18,56 @@ pub struct Form {
     pub ghost covered: { covers_numbers kind ≡ true },
 }
 
+/// Whether a kind is `$neg`, which has one operand.
+fn is_neg(kind: Kind) -> bool
+    ensures { result ≡ is_neg kind }
+{
+    matches!(kind, Kind::Neg)
+}
+
+/// A parameter of a cell that is a width of at most 128 bits.
+fn narrow_number(cell: &Cell, param: Param) -> u32
+    requires { number_of cell.now param ≤ 128 }
+    ensures { result ≡ number_of cell.now param }
+{
+    cell.number(param) as u32
+}
+
 impl Form {
     ghost use Rattle.cif_defs.specs.Cells.{Cell as CellData, meaning};
     ghost use Rattle.cif_defs.specs.Fitted.{IsFitted, operand_widths};
     ghost use Rattle.cif_term.specs.CellTaints.{taint_words};
     ghost use Rattle.word_numbers.specs.HeldWords.{words_held};
-    ghost use Rattle.word_sums.specs.CellForms.{IsFormOf, IsNarrow, output_widths};
+    ghost use Rattle.word_sums.specs.CellForms.{IsFormOf, IsNarrow, output_widths, signed_cell};
     ghost use Rattle.word_sums.specs.HeldForms.{IsHeldBy};
+
+    /// The width of B, or 1 where a cell has no B.
+    fn second_width(cell: &Cell) -> u32
+        requires covered { covers_numbers cell.now.kind ≡ true }
+        requires fitted { IsFitted cell.now }
+        requires narrow { IsNarrow cell.now }
+        ensures value { is_neg cell.now.kind ≡ false → result ≡ number_of cell.now Param.BWidth }
+        ensures some { 1 ≤ result }
+        ensures limit { result ≤ 128 }
+    {
+        if is_neg(cell.kind()) {
+            1
+        } else {
+            narrow_number(cell, Param::BWidth)
+        }
+    }
+
+    /// Whether a cell's operands are signed.
+    fn are_signed(cell: &Cell) -> bool
+        ensures { result ≡ signed_cell cell.now }
+    {
+        let first = cell.number(Param::ASigned) == 1;
+        if is_neg(cell.kind()) {
+            first
+        } else {
+            first & (cell.number(Param::BSigned) == 1)
+        }
+    }
 
     /// The form of a cell.
     pub fn of(cell: &Cell) -> Form
@@ -32,20 +76,14 @@ impl Form {
         requires narrow { IsNarrow cell.now }
         ensures { IsFormOf result cell.now }
     {
-        let kind = cell.kind();
-        let is_neg = matches!(kind, Kind::Neg);
-        let a_signed = cell.number(Param::ASigned) == 1;
-        let shape = Shape {
-            a: cell.number(Param::AWidth) as u32,
-            b: if is_neg {
-                1
-            } else {
-                cell.number(Param::BWidth) as u32
-            },
-            y: cell.number(Param::YWidth) as u32,
-            signed: a_signed & (is_neg | (cell.number(Param::BSigned) == 1)),
-        };
-        Form { kind, shape }
+        let a = narrow_number(cell, Param::AWidth);
+        let b = Form::second_width(cell);
+        let y = narrow_number(cell, Param::YWidth);
+        let signed = Form::are_signed(cell);
+        Form {
+            kind: cell.kind(),
+            shape: Shape { a, b, y, signed },
+        }
     }
 
     /// The word of the output, from the words of the operands.
@@ -54,7 +92,7 @@ impl Form {
         ensures { (c : CellData) → IsFormOf self.now c
             → words_held (output_widths c) result ≡ meaning c (words_held (operand_widths c) values.now) }
     {
-        if self.kind == Kind::Neg {
+        if is_neg(self.kind) {
             return Words::one(neg_value(self.shape, values.a));
         }
         let pair = Pair {
@@ -71,7 +109,7 @@ impl Form {
         ensures { (c : CellData) → IsFormOf self.now c → words_held (output_widths c) result
             ≡ taint_words c (words_held (operand_widths c) values.now) (words_held (operand_widths c) taints.now) }
     {
-        if self.kind == Kind::Neg {
+        if is_neg(self.kind) {
             return Words::one(neg_taint(self.shape, values.a, taints.a));
         }
         let value_pair = Pair {
