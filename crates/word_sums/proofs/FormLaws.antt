@@ -1,7 +1,8 @@
 -- The words and taints of a cell, from those of its form.
-use Rattle.std.specs.Prelude.{ℕ, ◌<◌, ◌≤◌, ◌≡◌, ◌≢◌, Bool, true, false, List, [], ◌∷◌, map, length, get_or, if◌then◌else◌, refl}
+use Rattle.std.specs.Prelude.{ℕ, ◌^◌, ◌<◌, ◌≤◌, ◌≡◌, ◌≢◌, Bool, true, false, List, [], ◌∷◌, map, length, get_or, if◌then◌else◌, refl}
 use Rattle.std.specs.List.{range_with_len}
-use Rattle.std.proofs.Common.{arith, sym, ap, ◌∙◌}
+use Rattle.std.proofs.Common.{arith, sym, ap, ◌∙◌, subst}
+use Rattle.std.proofs.lemmas.Nat.{pow_pos}
 use Rattle.cif_defs.specs.Cells.{Cell, a_signed, binary, both_signed, coarse_by, meaning, number_of, unary, words_by, y_width}
 use Rattle.cif_defs.specs.Coarse.{division_taint, product_taint, quotient_taint}
 use Rattle.cif_defs.specs.Fitted.{AllWithin, IsFitted, IsWithin, operand_widths, row_width}
@@ -24,7 +25,7 @@ use Rattle.rule_arith.proofs.OwnTaints.{neg_taints}
 use Rattle.rule_arith.proofs.SumTaints.{add_taints, sub_taints}
 use Rattle.rule_coarse.proofs.CoarseShapes.{coarse_taint}
 use Rattle.rule_logic.proofs.Shapes.{HasRows, has_rows}
-use Rattle.word_numbers.specs.HeldWords.{words_held}
+use Rattle.word_numbers.specs.HeldWords.{AreNarrow, words_held}
 use Rattle.word_numbers.specs.declared.words.Words.{Words}
 use Rattle.word_sums.specs.declared.form.Form.{Form}
 use Rattle.word_sums.specs.declared.shape.Pair.{Pair}
@@ -301,3 +302,19 @@ neg_taint_means f c v t r k i e =
     ∙ ap (λ (x : Word). x ∷ []) (e ∙ own_formula f c vs ts is i ∙ first.means vs ts (ap (λ n. n ∷ []) (length-word f.shape.a _ ∙ i.a) ∙ sym rows.widths) (ap (λ n. n ∷ []) (length-word f.shape.a _ ∙ i.a) ∙ sym rows.widths))
     ∙ sym (one_taint c vs ts rows.output_rows)
     ∙ ap (λ us. taint_words c us ts) (held_own f c v rows.widths i) ∙ ap (λ us. taint_words c (words_held (operand_widths c) v) us) (held_own f c t rows.widths i)
+
+-- ---- outputs fit their widths
+
+narrow_one : (ns : List ℕ) (r : ℕ) → r < 2 ^ get_or ns 0 0 → AreNarrow ns (record { a = r; b = 0; c = 0; d = 0 })
+narrow_one ns r h = record { a = h; b = pow_pos (get_or ns 1 0); c = pow_pos (get_or ns 2 0); d = pow_pos (get_or ns 3 0) }
+
+narrow_output : (c : Cell) (n r : ℕ) (w : Words) → w ≡ record { a = r; b = 0; c = 0; d = 0 } → outputs_of c.kind ≡ y_row ∷ [] → n ≡ y_width c → r < 2 ^ n → AreNarrow (output_widths c) w
+narrow_output c n r w e rows y h =
+    subst (λ (u : Words). AreNarrow (output_widths c) u) (sym e)
+    (narrow_one (output_widths c) r (subst (λ k. r < 2 ^ k) (y ∙ sym (ap (λ rs. get_or (map (row_width c) rs) 0 0) rows)) h))
+
+pub binary_narrow : (f : Form) (c : Cell) (r : ℕ) (w : Words) → is_binary f.kind ≡ true → IsFormOf f c → w ≡ record { a = r; b = 0; c = 0; d = 0 } → r < 2 ^ f.shape.y → AreNarrow (output_widths c) w
+binary_narrow f c r w h i e l = let rows = binary_rows c (sym (ap is_binary i.kind) ∙ h) i.fitted in narrow_output c f.shape.y r w e rows.output_rows i.y l
+
+pub neg_narrow : (f : Form) (c : Cell) (r : ℕ) (w : Words) → f.kind ≡ Neg → IsFormOf f c → w ≡ record { a = r; b = 0; c = 0; d = 0 } → r < 2 ^ f.shape.y → AreNarrow (output_widths c) w
+neg_narrow f c r w k i e l = let rows = neg_rows c (sym i.kind ∙ k) i.fitted in narrow_output c f.shape.y r w e rows.output_rows i.y l

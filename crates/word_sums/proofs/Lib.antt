@@ -7,3 +7,4 @@ pub mod OrderLaws
 pub mod CoarseLaws
 pub mod KindLaws
 pub mod FormLaws
+pub mod AluLaws

@@ -6,3 +6,6 @@ pub mod CoarseWords
 pub mod Covered
 pub mod CellForms
 pub mod HeldForms
+pub mod AluWords
+pub mod AluNumbers
+pub mod AluForms

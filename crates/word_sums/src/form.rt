@@ -26,7 +26,7 @@ fn is_neg(kind: Kind) -> bool
 }
 
 /// A parameter of a cell that is a width of at most 128 bits.
-fn narrow_number(cell: &Cell, param: Param) -> u32
+pub fn narrow_number(cell: &Cell, param: Param) -> u32
     requires { number_of cell.now param ≤ 128 }
     ensures { result ≡ number_of cell.now param }
 {
@@ -37,7 +37,7 @@ impl Form {
     ghost use Rattle.cif_defs.specs.Cells.{Cell as CellData, meaning};
     ghost use Rattle.cif_defs.specs.Fitted.{IsFitted, operand_widths};
     ghost use Rattle.cif_term.specs.CellTaints.{taint_words};
-    ghost use Rattle.word_numbers.specs.HeldWords.{words_held};
+    ghost use Rattle.word_numbers.specs.HeldWords.{AreNarrow, words_held};
     ghost use Rattle.word_sums.specs.CellForms.{IsFormOf, IsNarrow, output_widths, signed_cell};
     ghost use Rattle.word_sums.specs.HeldForms.{IsHeldBy};
 
@@ -89,8 +89,9 @@ impl Form {
     /// The word of the output, from the words of the operands.
     pub fn value(&self, values: &Words) -> Words
         requires { IsHeldBy self.now values.now }
-        ensures { (c : CellData) → IsFormOf self.now c
+        ensures words { (c : CellData) → IsFormOf self.now c
             → words_held (output_widths c) result ≡ meaning c (words_held (operand_widths c) values.now) }
+        ensures narrow { (c : CellData) → IsFormOf self.now c → AreNarrow (output_widths c) result }
     {
         if is_neg(self.kind) {
             return Words::one(neg_value(self.shape, values.a));
@@ -106,8 +107,9 @@ impl Form {
     pub fn taint(&self, values: &Words, taints: &Words) -> Words
         requires values { IsHeldBy self.now values.now }
         requires taints { IsHeldBy self.now taints.now }
-        ensures { (c : CellData) → IsFormOf self.now c → words_held (output_widths c) result
+        ensures words { (c : CellData) → IsFormOf self.now c → words_held (output_widths c) result
             ≡ taint_words c (words_held (operand_widths c) values.now) (words_held (operand_widths c) taints.now) }
+        ensures narrow { (c : CellData) → IsFormOf self.now c → AreNarrow (output_widths c) result }
     {
         if is_neg(self.kind) {
             return Words::one(neg_taint(self.shape, values.a, taints.a));

@@ -6,6 +6,7 @@
 //! $divfloor $modfloor`. No call takes memory, and none refuses.
 #![tactic(auto)]
 
+mod alu;
 mod bounds;
 mod coarse;
 mod form;
@@ -16,5 +17,6 @@ mod sum_taints;
 mod sums;
 mod values;
 
+pub use alu::AluForm;
 pub use form::Form;
 pub use shape::Shape;

@@ -23,7 +23,7 @@ fn extended(width: u32, signed: bool, bits: u32, value: u128) -> u128
 }
 
 /// The numbers of both operands, cut or extended to `width` bits.
-fn extended_pair(width: u32, shape: Shape, values: Pair) -> Pair
+pub fn extended_pair(width: u32, shape: Shape, values: Pair) -> Pair
     requires some { 1 ≤ width }
     requires limit { width ≤ 128 }
     requires values { IsPairOf shape values }
