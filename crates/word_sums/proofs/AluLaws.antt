@@ -6,7 +6,6 @@ use Rattle.std.proofs.lemmas.Nat.{pow_pos, xor_lt}
 use Rattle.cif_defs.specs.Cells.{Cell, both_signed, meaning, number_of, words_by, y_width}
 use Rattle.cif_defs.specs.Fitted.{IsFitted, operand_widths, row_width}
 use Rattle.cif_defs.specs.Meanings.{alu_carry_word, alu_operand, alu_sum_word, alu_xor_word}
-use Rattle.cif_defs.specs.Table.{outputs_of}
 use Rattle.cif_defs.specs.Words.{Word, bit, bit_value, digit, extend, extended_bit, number, operand, word, word_of, xor}
 use Rattle.cif_defs.specs.declared.kinds.Kind.TheVariants.{Alu}
 use Rattle.cif_defs.specs.declared.kinds.Param.TheVariants.{AWidth, BWidth}
@@ -19,7 +18,7 @@ use Rattle.cif_arith.proofs.Meanings.{word_of-alu_co, word_of-alu_x, word_of-alu
 use Rattle.cif_term.specs.CellTaints.{AreTaintsOf, IsTaintOf, taint_word, taint_words}
 use Rattle.cif_term.specs.Formulas.{Formula, value_of}
 use Rattle.rule_arith.specs.AluFormulas.{alu_carry_taint, alu_sum_taint, alu_xor_taint}
-use Rattle.rule_arith.specs.Bounds.{is_upper, sign_start}
+use Rattle.rule_arith.specs.Bounds.{sign_start}
 use Rattle.rule_arith.specs.SumFormulas.{of_pair}
 use Rattle.rule_arith.proofs.AluCarries.{alu_carries, alu_carry_rule, carry_is, full_bound, same_side}
 use Rattle.rule_arith.proofs.AluRules.{alu_sum_rule, alu_sums, alu_xor_rule}
@@ -38,7 +37,7 @@ use Rattle.word_sums.specs.declared.shape.Shape.{Shape}
 use Rattle.word_sums.specs.declared.sums.Carry.{Carry}
 use Rattle.word_sums.specs.declared.sums.Summand.{Summand}
 use Rattle.word_sums.specs.AluForms.{IsAluFormOf}
-use Rattle.word_sums.specs.AluNumbers.{AreAluOperands, IsAddend, IsShort, alu_carry_number, alu_sum_number, carries_number, carries_taint, full_number, greatest_bit, least_bit}
+use Rattle.word_sums.specs.AluNumbers.{AreAluOperands, IsAddend, IsShort, alu_carry_number, alu_sum_number, carries_number, full_number, greatest_bit, least_bit}
 use Rattle.word_sums.specs.AluWords.{alu_taint_of, alu_words}
 use Rattle.word_sums.specs.BoundNumbers.{bounds_of}
 use Rattle.word_sums.specs.CellForms.{output_widths}

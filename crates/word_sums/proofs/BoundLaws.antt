@@ -1,6 +1,6 @@
 -- The bounds of a number with taint, bit by bit.
-use Rattle.std.specs.Prelude.{ℕ, ◌-◌, ◌^◌, ◌<◌, ◌≤◌, ◌≡◌, Bool, true, false, not, ◌&&◌, ◌||◌, nat_lt, bit_and, bit_or, if◌then◌else◌, refl}
-use Rattle.std.proofs.Common.{arith, sym, ap, ◌∙◌}
+use Rattle.std.specs.Prelude.{ℕ, ◌-◌, ◌^◌, ◌<◌, ◌≡◌, Bool, true, false, not, ◌&&◌, ◌||◌, nat_lt, bit_and, bit_or, if◌then◌else◌, refl}
+use Rattle.std.proofs.Common.{ap, ◌∙◌}
 use Rattle.std.proofs.lemmas.Nat.{or_lt}
 use Rattle.cif_defs.specs.Words.{digit, word_of}
 use Rattle.cif_defs.specs.Meanings.{not_word}
@@ -82,6 +82,7 @@ side_holds {n = n} {x = x} {t = t} {p = p} {q = q} k low high h g =
   where
     greater : Holds n (bounds_of n x t).greatest (λ i. p i || q i)
     greater = holds_same (number_holds n (bounds_of n x t).greatest _ refl) (λ i l. ap (λ b. b || digit t i) (h.bits i l) ∙ ap (λ b. p i || b) (g.bits i l))
+
     lesser : Holds n (bounds_of n x t).least (λ i. p i && not (q i))
     lesser = holds_same (number_holds n (bounds_of n x t).least _ refl) (λ i l. ap (λ b. b && not (digit t i)) (h.bits i l) ∙ ap (λ b. p i && not b) (g.bits i l))
 

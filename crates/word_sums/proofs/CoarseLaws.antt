@@ -1,5 +1,5 @@
 -- The coarse taint of products and divisions, on numbers.
-use Rattle.std.specs.Prelude.{ℕ, zero, suc, ◌+◌, ◌-◌, ◌*◌, ◌/◌, ◌%◌, ◌^◌, ◌<◌, ◌≤◌, ◌≡◌, ◌≢◌, ◌==◌, ◌⊎◌, nat_le, nat_lt, Bool, true, false, not, ◌&&◌, ◌||◌, bit_and, bit_or, bit_xor, length, take, drop, if◌then◌else◌, refl}
+use Rattle.std.specs.Prelude.{ℕ, zero, suc, ◌+◌, ◌-◌, ◌*◌, ◌/◌, ◌%◌, ◌^◌, ◌<◌, ◌≤◌, ◌≡◌, ◌==◌, ◌⊎◌, nat_le, nat_lt, Bool, true, false, not, ◌&&◌, ◌||◌, bit_and, bit_or, bit_xor, length, take, drop, if◌then◌else◌, refl}
 use Rattle.std.specs.Int.Count.{count_leading_zeros}
 use Rattle.std.proofs.Common.{arith, sym, ap, ◌∙◌, inl, inr, subst}
 use Rattle.std.proofs.lemmas.List.{length-take}
@@ -8,15 +8,12 @@ use Rattle.std.proofs.lemmas.Nat.{leading_length, pow_pos, xor_lt}
 use Rattle.std.proofs.Math.Nat.{div-le_self, mod-eq_of_lt, pow-succ', zero-div}
 use Rattle.cif_defs.specs.Coarse.{either_taint, high_quotient, is_known_zero, low_quotient, max_word, min_word}
 use Rattle.cif_defs.specs.Meanings.{add_word, not_word, or_word}
-use Rattle.cif_defs.specs.Words.{Word, bit, digit, extend, extended_bit, has_one, number, word, word_of, xor}
+use Rattle.cif_defs.specs.Words.{Word, bit, digit, extend, has_one, number, word, word_of, xor}
 use Rattle.cif_defs.proofs.Numbers.{number_split, number_mono, word-same}
 use Rattle.cif_defs.proofs.WordLaws.{bit-word, le_or_lt, length-word, past_word}
 use Rattle.cif_defs.proofs.WordNumbers.{extend-same, number-word_below, number-word_of, number_below}
 use Rattle.cif_arith.proofs.Meanings.{word_of-add}
 use Rattle.cif_arith.proofs.Residues.{mask-shr}
-use Rattle.cif_term.specs.declared.ops.Op1.TheVariants.{Not}
-use Rattle.cif_term.specs.declared.ops.Op2.TheVariants.{Add, Or}
-use Rattle.cif_term.specs.Formulas.{one_word, two_word}
 use Rattle.rule_coarse.specs.CoarseFormulas.{ones}
 use Rattle.rule_coarse.proofs.CoarseWords.{difference, quotients_differ, risen, some_number}
 use Rattle.word_numbers.proofs.Digits.{word_of-or}
@@ -25,7 +22,7 @@ use Rattle.word_sums.specs.declared.shape.Pair.{Pair}
 use Rattle.word_sums.specs.declared.shape.Shape.{Shape}
 use Rattle.word_sums.specs.BoundNumbers.{bounds_of}
 use Rattle.word_sums.specs.CoarseWords.{divides_of, division_taint_of, product_taint_of, quotient_taint_of}
-use Rattle.word_sums.proofs.HeldNumbers.{Holds, and_fits, holds_and, holds_or, holds_word, holds_xor, ones_digit, own_bits, power_grows, word_holds}
+use Rattle.word_sums.proofs.HeldNumbers.{Holds, holds_and, holds_or, holds_word, holds_xor, ones_digit, own_bits, power_grows, word_holds}
 
 -- ---- words with their tainted bits set and cleared
 

@@ -5,7 +5,7 @@ use Rattle.std.proofs.Common.{arith, sym, ap, ◌∙◌, subst}
 use Rattle.std.proofs.lemmas.Nat.{pow_pos}
 use Rattle.cif_defs.specs.Cells.{Cell, a_signed, binary, both_signed, coarse_by, meaning, number_of, unary, words_by, y_width}
 use Rattle.cif_defs.specs.Coarse.{division_taint, product_taint, quotient_taint}
-use Rattle.cif_defs.specs.Fitted.{AllWithin, IsFitted, IsWithin, operand_widths, row_width}
+use Rattle.cif_defs.specs.Fitted.{IsFitted, operand_widths, row_width}
 use Rattle.cif_defs.specs.Kinds.{is_coarse}
 use Rattle.cif_defs.specs.Meanings.{add_word, div_word, divfloor_word, eq_word, ge_word, gt_word, le_word, lt_word, mod_word, modfloor_word, mul_word, ne_word, neg_word, sub_word}
 use Rattle.cif_defs.specs.Table.{a_row, b_row, operands_of, outputs_of, y_row}
@@ -30,7 +30,7 @@ use Rattle.word_numbers.specs.declared.words.Words.{Words}
 use Rattle.word_sums.specs.declared.form.Form.{Form}
 use Rattle.word_sums.specs.declared.shape.Pair.{Pair}
 use Rattle.word_sums.specs.declared.shape.Shape.{Shape}
-use Rattle.word_sums.specs.CellForms.{IsFormOf, div_taint_of, output_widths, signed_cell, taint_row, value_row}
+use Rattle.word_sums.specs.CellForms.{IsFormOf, div_taint_of, output_widths, taint_row, value_row}
 use Rattle.word_sums.specs.CoarseWords.{division_taint_of, product_taint_of, quotient_taint_of}
 use Rattle.word_sums.specs.Covered.{covers_numbers, is_binary, is_neg}
 use Rattle.word_sums.specs.Operands.{pair_words, row_of, taint_of, taint_of_one}

@@ -1,5 +1,5 @@
 -- Numbers that hold words: their digits, bit by bit.
-use Rattle.std.specs.Prelude.{ℕ, zero, suc, ◌+◌, ◌-◌, ◌*◌, ◌/◌, ◌%◌, ◌^◌, ◌<◌, ◌≤◌, ◌≡◌, ◌==◌, ◌⊎◌, Bool, true, false, not, ◌&&◌, ◌||◌, nat_lt, bit_and, bit_or, bit_xor, if◌then◌else◌, refl}
+use Rattle.std.specs.Prelude.{ℕ, ◌-◌, ◌^◌, ◌<◌, ◌≤◌, ◌≡◌, ◌==◌, ◌⊎◌, Bool, true, false, not, ◌&&◌, ◌||◌, nat_lt, bit_and, bit_or, bit_xor, refl}
 use Rattle.std.proofs.Common.{arith, sym, ap, ◌∙◌, inl, inr}
 use Rattle.std.proofs.lemmas.Bool.Decides.{nat_tests}
 use Rattle.std.specs.Int.{bit_at}
@@ -10,9 +10,8 @@ use Rattle.cif_defs.specs.Words.{Word, bit, digit, number, word, word_of, xor}
 use Rattle.cif_defs.specs.Meanings.{not_word}
 use Rattle.cif_defs.proofs.Numbers.{word-same}
 use Rattle.cif_defs.proofs.WordLaws.{bit-word, le_or_lt}
-use Rattle.cif_defs.proofs.WordNumbers.{digit-number, number-word_below, number-word_of}
+use Rattle.cif_defs.proofs.WordNumbers.{digit-number, number-word_of}
 use Rattle.cif_arith.proofs.Carries.{digit-and, digit-or, digit-xor}
-use Rattle.rule_arith.specs.Bounds.{is_upper}
 use Rattle.word_sums.specs.BoundNumbers.{number_by}
 
 -- the lowest n digits of x are the bits p

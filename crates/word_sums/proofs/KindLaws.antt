@@ -1,7 +1,7 @@
 -- The rows of kinds from flags.
 use Rattle.std.specs.Prelude.{ℕ, ◌≤◌, ◌≡◌, Bool, true, false, not, int_lt, int_le, refl}
 use Rattle.std.specs.Ordering.{int_eq}
-use Rattle.std.proofs.Common.{sym, ap, ◌∙◌}
+use Rattle.std.proofs.Common.{ap, ◌∙◌}
 use Rattle.cif_defs.specs.Meanings.{eq_word, ge_word, gt_word, le_word, lt_word, ne_word}
 use Rattle.cif_defs.specs.Words.{flag_word, word_of}
 use Rattle.word_sums.specs.declared.shape.Pair.{Pair}

@@ -1,14 +1,14 @@
 -- The taint of comparisons and of equality, on numbers: what the formula of each stands for.
-use Rattle.std.specs.Prelude.{ℕ, ◌^◌, ◌<◌, ◌≤◌, ◌≡◌, ◌==◌, max, nat_lt, Bool, true, false, not, ◌&&◌, ◌||◌, bit_and, bit_or, List, [], ◌∷◌, ◌++◌, length, int_lt, if◌then◌else◌, refl}
+use Rattle.std.specs.Prelude.{ℕ, ◌^◌, ◌<◌, ◌≤◌, ◌≡◌, ◌==◌, max, nat_lt, Bool, true, false, not, ◌&&◌, ◌||◌, bit_and, bit_or, List, [], ◌∷◌, ◌++◌, length, refl}
 use Rattle.std.proofs.Common.{arith, sym, ap, ◌∙◌}
 use Rattle.std.proofs.Math.Nat.{mod-eq_of_lt}
-use Rattle.cif_defs.specs.Meanings.{compared, lt_word, not_word}
+use Rattle.cif_defs.specs.Meanings.{lt_word, not_word}
 use Rattle.cif_defs.specs.Words.{Word, bit, digit, extend, extended_bit, flag_word, has_one, number, operand, word, word_of, xor}
 use Rattle.cif_defs.proofs.WordLaws.{length-word}
 use Rattle.cif_defs.proofs.WordNumbers.{extend-same, number-word_below, number-word_of}
 use Rattle.cif_arith.proofs.Meanings.{compared-less}
 use Rattle.cif_term.specs.declared.ops.Op1.TheVariants.{Not, ReduceOr}
-use Rattle.cif_term.specs.declared.ops.Op2.TheVariants.{And, Or, Xor}
+use Rattle.cif_term.specs.declared.ops.Op2.TheVariants.{And, Or}
 use Rattle.cif_term.specs.Extended.{extended}
 use Rattle.cif_term.specs.Formulas.{Bound, Formula, One, Taint, Two, value_of}
 use Rattle.cif_term.proofs.Values.{value-and, value-not, value-or, value-xor}
@@ -25,7 +25,7 @@ use Rattle.word_sums.specs.declared.shape.Shape.{Shape}
 use Rattle.word_sums.specs.declared.sums.Summand.{Summand}
 use Rattle.word_sums.specs.Operands.{pair_words, taint_of}
 use Rattle.word_sums.specs.OrderNumbers.{bound_number, can_meet, clash_word, less_number, meets_anywhere, order_differs, second_meets, some_case}
-use Rattle.word_sums.proofs.HeldNumbers.{Holds, and_fits, holds_and, holds_not, holds_or, holds_same, holds_word, own_bits, word_holds}
+use Rattle.word_sums.proofs.HeldNumbers.{and_fits, holds_and, holds_not, holds_or, holds_word, own_bits, word_holds}
 use Rattle.word_sums.proofs.BoundLaws.{side_holds}
 use Rattle.word_sums.proofs.SumLaws.{HoldsSummand}
 use Rattle.word_sums.proofs.SumTaintLaws.{IsSummand, plain_summand}

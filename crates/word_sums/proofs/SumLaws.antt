@@ -1,8 +1,8 @@
 -- The taint of sums, on numbers: it holds what the formula of a sum stands for.
-use Rattle.std.specs.Prelude.{ℕ, ◌+◌, ◌%◌, ◌^◌, ◌<◌, ◌≤◌, ◌≡◌, Bool, true, false, ◌&&◌, ◌||◌, nat_lt, bit_or, bit_xor, length, if◌then◌else◌, refl}
-use Rattle.std.proofs.Common.{arith, sym, ap, ◌∙◌}
+use Rattle.std.specs.Prelude.{ℕ, ◌+◌, ◌%◌, ◌^◌, ◌<◌, ◌≡◌, Bool, true, false, ◌&&◌, ◌||◌, nat_lt, if◌then◌else◌, refl}
+use Rattle.std.proofs.Common.{sym, ap, ◌∙◌}
 use Rattle.cif_defs.specs.Meanings.{alu_operand, alu_sum_word}
-use Rattle.cif_defs.specs.Words.{Word, bit, bit_value, digit, extend, number, word, word_of, xor}
+use Rattle.cif_defs.specs.Words.{Word, bit, bit_value, digit, extend, number, word, word_of}
 use Rattle.cif_defs.proofs.Numbers.{word-same}
 use Rattle.cif_defs.proofs.SumExact.{alu_is_sum}
 use Rattle.cif_defs.proofs.Sums.{sum_bit}
@@ -14,9 +14,8 @@ use Rattle.rule_arith.proofs.SumValues.{bound_at, sum_rule}
 use Rattle.rule_arith.proofs.Turns.{case_turns, cases_turn, joined_bit, second_turns}
 use Rattle.word_sums.specs.declared.sums.Carry.{Carry}
 use Rattle.word_sums.specs.declared.sums.Summand.{Summand}
-use Rattle.word_sums.specs.declared.sums.Sums.{Sums}
 use Rattle.word_sums.specs.BoundNumbers.{bounds_of, side_of}
-use Rattle.word_sums.specs.SumNumbers.{case_number, cases_number, joined_number, no_carry, second_number, single_taint, sum_number, sum_taint_number, sums_between, sums_number}
+use Rattle.word_sums.specs.SumNumbers.{case_number, cases_number, joined_number, no_carry, second_number, single_taint, sum_number, sum_taint_number, sums_between}
 use Rattle.word_sums.proofs.HeldNumbers.{Holds, holds_number, holds_or, holds_same, holds_xor}
 use Rattle.word_sums.proofs.BoundLaws.{below_holds, side_holds}
 

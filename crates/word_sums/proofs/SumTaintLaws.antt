@@ -1,10 +1,10 @@
 -- The taint of $add, $sub and $neg, on numbers: what the formula of each stands for.
-use Rattle.std.specs.Prelude.{ℕ, zero, suc, ◌%◌, ◌^◌, ◌<◌, ◌≤◌, ◌≡◌, ◌==◌, ◌&&◌, Bool, true, false, not, List, [], ◌∷◌, length, refl}
+use Rattle.std.specs.Prelude.{ℕ, zero, suc, ◌%◌, ◌^◌, ◌≤◌, ◌≡◌, ◌==◌, ◌&&◌, Bool, true, false, List, [], ◌∷◌, refl}
 use Rattle.std.proofs.Common.{arith, sym, ap, ◌∙◌}
 use Rattle.std.proofs.Math.Nat.{zero-div}
 use Rattle.std.proofs.lemmas.Bool.Decides.{nat_tests}
 use Rattle.cif_defs.specs.Meanings.{not_word}
-use Rattle.cif_defs.specs.Words.{Word, bit, digit, extend, extended_bit, operand, word, word_of, xor, zeros}
+use Rattle.cif_defs.specs.Words.{Word, digit, extend, extended_bit, word, word_of, xor, zeros}
 use Rattle.cif_defs.proofs.Numbers.{digit-suc}
 use Rattle.cif_defs.proofs.WordLaws.{length-word}
 use Rattle.cif_term.specs.declared.ops.Op1.TheVariants.{Not}
@@ -20,9 +20,9 @@ use Rattle.rule_arith.proofs.SumValues.{Gives, sum_rule, value-sum_formula}
 use Rattle.word_sums.specs.declared.shape.Pair.{Pair}
 use Rattle.word_sums.specs.declared.shape.Shape.{Shape}
 use Rattle.word_sums.specs.declared.sums.Summand.{Summand}
-use Rattle.word_sums.specs.Operands.{IsPairOf, pair_words, taint_of, taint_of_one}
+use Rattle.word_sums.specs.Operands.{pair_words, taint_of, taint_of_one}
 use Rattle.word_sums.specs.SumNumbers.{sum_taint_number}
-use Rattle.word_sums.proofs.HeldNumbers.{Holds, holds_not, holds_same, holds_word, word_holds}
+use Rattle.word_sums.proofs.HeldNumbers.{holds_not, holds_same, holds_word, word_holds}
 use Rattle.word_sums.proofs.SumLaws.{HoldsSummand, sum_taint_holds}
 
 -- an operand of m bits as a summand of n bits that starts its sign at a place

@@ -1,12 +1,12 @@
 -- The values of cells, from the numbers that code computes.
-use Rattle.std.specs.Prelude.{ℕ, ◌+◌, ◌-◌, ◌%◌, ◌^◌, ◌<◌, ◌≤◌, ◌≡◌, ◌==◌, max, Bool, true, false, not, ◌&&◌, length, ℤ, pos, ◌-ℤ◌, if◌then◌else◌, int_lt, int_le}
+use Rattle.std.specs.Prelude.{ℕ, ◌-◌, ◌%◌, ◌^◌, ◌<◌, ◌≤◌, ◌≡◌, max, Bool, true, false, not, ◌&&◌, length, ℤ, pos, ◌-ℤ◌, if◌then◌else◌, int_lt, int_le}
 use Rattle.std.specs.Ordering.{int_eq}
 use Rattle.std.proofs.Common.{arith, sym, ap, ◌∙◌, Decides}
-use Rattle.std.proofs.lemmas.Bool.Decides.{Decides-int_eq, nat_tests, same_from_decides}
+use Rattle.std.proofs.lemmas.Bool.Decides.{Decides-int_eq, same_from_decides}
 use Rattle.std.proofs.lemmas.Int.{ints}
 use Rattle.std.proofs.lemmas.Nat.{pow_pos}
 use Rattle.std.proofs.Math.Nat.{mod-eq_of_lt, mod-lt}
-use Rattle.cif_defs.specs.Meanings.{compared, divided}
+use Rattle.cif_defs.specs.Meanings.{divided}
 use Rattle.cif_defs.specs.Words.{Word, digit, extend, int_number, number, word_of}
 use Rattle.cif_defs.proofs.WordLaws.{length-word}
 use Rattle.cif_defs.proofs.WordNumbers.{compared-numbers, number-word_of}

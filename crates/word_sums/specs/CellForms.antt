@@ -1,13 +1,12 @@
 -- Cells made ready, and the words and taints that they give over numbers.
-use Rattle.std.specs.Prelude.{ℕ, ◌^◌, ◌<◌, ◌≤◌, ◌≡◌, ◌≢◌, Bool, true, false, List, [], ◌∷◌, map, not, int_lt, int_le, if◌then◌else◌}
-use Rattle.std.specs.Ordering.{int_eq}
+use Rattle.std.specs.Prelude.{ℕ, ◌≤◌, ◌≡◌, Bool, false, List, [], map, if◌then◌else◌}
 use Rattle.cif_defs.specs.Cells.{Cell, a_signed, both_signed, number_of, y_width}
 use Rattle.cif_defs.specs.Fitted.{IsFitted, row_width}
 use Rattle.cif_defs.specs.Meanings.{add_word, div_word, divfloor_word, eq_word, ge_word, gt_word, le_word, lt_word, mod_word, modfloor_word, mul_word, ne_word, sub_word}
 use Rattle.cif_defs.specs.Table.{outputs_of}
 use Rattle.cif_defs.specs.Words.{Word}
 use Rattle.cif_defs.specs.declared.kinds.Kind.{Kind}
-use Rattle.cif_defs.specs.declared.kinds.Kind.TheVariants.{Add, Sub, Neg, Mul, Div, Mod, DivFloor, ModFloor, Eq, Ne, Eqx, Nex, Lt, Le, Ge, Gt}
+use Rattle.cif_defs.specs.declared.kinds.Kind.TheVariants.{Add, Sub, Mul, Div, Mod, DivFloor, ModFloor, Eq, Ne, Eqx, Nex, Lt, Le, Ge, Gt}
 use Rattle.cif_defs.specs.declared.kinds.Param.TheVariants.{AWidth, BWidth}
 use Rattle.rule_arith.specs.EqualFormulas.{equal_taint}
 use Rattle.rule_arith.specs.OrderFormulas.{greater_taint, less_taint}

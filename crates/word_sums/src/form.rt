@@ -18,6 +18,31 @@ pub struct Form {
     pub ghost covered: { covers_numbers kind ≡ true },
 }
 
+/// Whether cells of this kind have their form here.
+pub fn covers(kind: Kind) -> bool
+    ensures { result ≡ covers_numbers kind }
+{
+    matches!(
+        kind,
+        Kind::Neg
+            | Kind::Add
+            | Kind::Sub
+            | Kind::Mul
+            | Kind::Div
+            | Kind::Mod
+            | Kind::DivFloor
+            | Kind::ModFloor
+            | Kind::Eq
+            | Kind::Ne
+            | Kind::Eqx
+            | Kind::Nex
+            | Kind::Lt
+            | Kind::Le
+            | Kind::Ge
+            | Kind::Gt
+    )
+}
+
 /// Whether a kind is `$neg`, which has one operand.
 fn is_neg(kind: Kind) -> bool
     ensures { result ≡ is_neg kind }
@@ -122,8 +147,6 @@ impl Form {
             a: taints.a,
             b: taints.b,
         };
-        Words::one(binary_taint(
-            self.kind, self.shape, value_pair, taint_pair,
-        ))
+        Words::one(binary_taint(self.kind, self.shape, value_pair, taint_pair))
     }
 }

@@ -106,7 +106,13 @@ pub fn greater_taint(shape: Shape, values: Pair, taints: Pair) -> u128
 }
 
 /// Whether both operands can be the same in the case of these signs: a bit that one of them must have, both can have.
-fn can_meet(width: u32, first: Summand, second: Summand, first_sign: bool, second_sign: bool) -> bool
+fn can_meet(
+    width: u32,
+    first: Summand,
+    second: Summand,
+    first_sign: bool,
+    second_sign: bool,
+) -> bool
     requires some { 1 ≤ width }
     requires limit { width ≤ 128 }
     requires first_value { first.value < 2 ^ width }

@@ -81,8 +81,12 @@ impl Sums {
         ensures value { result ≡ sum_number self.now upper first_sign second_sign }
         ensures fits { result < 2 ^ self.now.width }
     {
-        let first = self.first.side(self.width, self.first_start, upper, first_sign);
-        let second = self.second.side(self.width, self.second_start, upper, second_sign);
+        let first = self
+            .first
+            .side(self.width, self.first_start, upper, first_sign);
+        let second = self
+            .second
+            .side(self.width, self.second_start, upper, second_sign);
         alu(self.width, first, second, self.carry.bound(upper), false).y
     }
 
