@@ -1,15 +1,14 @@
 -- The bits of the words that numbers hold, and the words of bitwise operations on numbers.
-use Rattle.std.specs.Prelude.{ℕ, ◌+◌, ◌-◌, ◌*◌, ◌/◌, ◌%◌, ◌^◌, ◌<◌, ◌≤◌, ◌≡◌, ◌⊎◌, ◌==◌, Bool, true, false, not, ◌&&◌, ◌||◌, bit_and, bit_or, bit_xor, get_or, length, refl}
+use Rattle.std.specs.Prelude.{ℕ, ◌+◌, ◌-◌, ◌*◌, ◌/◌, ◌%◌, ◌^◌, ◌<◌, ◌≤◌, ◌≡◌, ◌==◌, Bool, true, false, not, ◌&&◌, ◌||◌, bit_and, bit_or, bit_xor, get_or}
 use Rattle.std.specs.Int.{bit_at, w128}
 use Rattle.std.proofs.Common.{arith, sym, ap, ◌∙◌, inl, inr}
 use Rattle.std.proofs.lemmas.Bool.Decides.{nat_tests}
-use Rattle.std.proofs.lemmas.List.{get_or_past}
-use Rattle.std.proofs.lemmas.Nat.{and_le_l, pow-add, shr-shr}
+use Rattle.std.proofs.lemmas.Nat.{and_le_l, shr-shr}
 use Rattle.std.proofs.lemmas.Nat.Bits.{bit_at-lt, bit_at_above, bit_at_not, bit_at_ones, bit_at_cat_low, bit_at_cat_high}
 use Rattle.std.proofs.Math.Nat.{mod-eq_of_lt}
-use Rattle.cif_defs.specs.Words.{Word, bit, bit_value, digit, number, word, word_of, xor}
+use Rattle.cif_defs.specs.Words.{Word, bit, digit, number, word, word_of, xor}
 use Rattle.cif_defs.specs.Meanings.{and_word, or_word, xor_word, not_word}
-use Rattle.cif_defs.proofs.WordLaws.{bit-word, length-word, le_or_lt, past_word}
+use Rattle.cif_defs.proofs.WordLaws.{bit-word, le_or_lt, past_word}
 use Rattle.cif_defs.proofs.Numbers.{word-same}
 use Rattle.cif_defs.proofs.WordNumbers.{number-word_of}
 use Rattle.cif_arith.proofs.Carries.{digit-and, digit-or, digit-xor}

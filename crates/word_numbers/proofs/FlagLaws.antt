@@ -1,12 +1,12 @@
 -- What all bits of a word say, from its number.
-use Rattle.std.specs.Prelude.{ℕ, zero, suc, ◌+◌, ◌-◌, ◌*◌, ◌/◌, ◌%◌, ◌^◌, ◌<◌, ◌≤◌, ◌≡◌, ◌==◌, Bool, true, false, not, ◌&&◌, List, [], ◌∷◌, length, refl}
+use Rattle.std.specs.Prelude.{ℕ, zero, suc, ◌+◌, ◌-◌, ◌*◌, ◌/◌, ◌%◌, ◌^◌, ◌<◌, ◌≤◌, ◌≡◌, ◌==◌, Bool, true, false, not, ◌&&◌, [], ◌∷◌, length, refl}
 use Rattle.std.specs.Int.RustNames.{count_ones}
 use Rattle.std.proofs.Common.{arith, sym, ap, ◌∙◌}
 use Rattle.std.proofs.lemmas.Bool.Decides.{nat_tests}
 use Rattle.std.proofs.lemmas.Nat.{ones_cat, pow_pos}
 use Rattle.std.proofs.Math.Pow.{pow_mono}
 use Rattle.std.proofs.Math.Nat.{pow-succ'}
-use Rattle.cif_defs.specs.Words.{Word, bit, bit_value, digit, flag_word, has_one, is_all_ones, number, parity, top, word, word_of, xor}
+use Rattle.cif_defs.specs.Words.{Word, bit, bit_value, digit, flag_word, has_one, is_all_ones, number, parity, top, word_of, xor}
 use Rattle.cif_defs.proofs.WordLaws.{length-word}
 use Rattle.word_numbers.proofs.Digits.{bit-held_by, digit_above, number-held, word_of-digits}
 

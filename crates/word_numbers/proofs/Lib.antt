@@ -2,3 +2,4 @@ pub mod Digits
 pub mod FlagLaws
 pub mod MaskLaws
 pub mod MoveLaws
+pub mod OneLaws

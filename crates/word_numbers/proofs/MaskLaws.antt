@@ -1,7 +1,7 @@
 -- Masks, cut numbers and complements.
-use Rattle.std.specs.Prelude.{ℕ, ◌+◌, ◌-◌, ◌/◌, ◌%◌, ◌^◌, ◌<◌, ◌≤◌, ◌≡◌, Bool, true, false, not}
+use Rattle.std.specs.Prelude.{ℕ, ◌-◌, ◌^◌, ◌<◌, ◌≤◌, ◌≡◌, true, false, not}
 use Rattle.std.proofs.Common.{arith, sym, ap, ◌∙◌}
-use Rattle.cif_defs.specs.Words.{Word, bit, digit, word, word_of}
+use Rattle.cif_defs.specs.Words.{word, word_of}
 use Rattle.cif_defs.specs.Meanings.{not_word}
 use Rattle.cif_defs.proofs.Numbers.{word-same}
 use Rattle.word_numbers.proofs.Digits.{bit-held_by, digit-not, digit-ones, word_of-digits}

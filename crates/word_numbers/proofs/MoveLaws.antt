@@ -2,12 +2,11 @@
 use Rattle.std.specs.Prelude.{ℕ, ◌+◌, ◌-◌, ◌*◌, ◌/◌, ◌%◌, ◌^◌, ◌<◌, ◌≤◌, ◌≡◌, ◌⊎◌, ◌==◌, nat_le, nat_lt, Bool, true, false, not, ◌&&◌, ◌||◌, bit_and, bit_or, get_or, length, if◌then◌else◌, refl}
 use Rattle.std.proofs.Common.{arith, sym, ap, ◌∙◌, inl, inr}
 use Rattle.std.proofs.lemmas.Bool.Decides.{nat_tests}
-use Rattle.std.proofs.lemmas.Nat.{or_comm, or_shifted, or_lt, pow-add, pow_pos}
+use Rattle.std.proofs.lemmas.Nat.{or_comm, or_shifted, pow-add, pow_pos}
 use Rattle.std.proofs.Math.Nat.{mod-eq_of_lt, mul-le-mul_right, zero-div}
-use Rattle.std.proofs.Math.Pow.{pow_mono}
-use Rattle.cif_defs.specs.Words.{Word, bit, digit, extend, extended_bit, top, word, word_of}
+use Rattle.cif_defs.specs.Words.{bit, digit, extend, top, word, word_of}
 use Rattle.cif_defs.specs.Meanings.{concat_word, not_word, slice_word}
-use Rattle.cif_defs.proofs.WordLaws.{bit-word, length-word, le_or_lt, past_word}
+use Rattle.cif_defs.proofs.WordLaws.{length-word, le_or_lt, past_word}
 use Rattle.cif_defs.proofs.Numbers.{digit_mod, word-same}
 use Rattle.cif_arith.proofs.Carries.{digit-and, digit-or}
 use Rattle.word_numbers.specs.HeldWords.{lowered_word, raised_word}

@@ -1,6 +1,6 @@
 -- The words that numbers hold, and words that numbers give bit by bit.
-use Rattle.std.specs.Prelude.{ℕ, ◌+◌, ◌-◌, ◌^◌, ◌<◌, Bool, ◌&&◌, nat_le, List, [], ◌∷◌, get_or, length}
-use Rattle.cif_defs.specs.Words.{Word, bit, word, word_of}
+use Rattle.std.specs.Prelude.{ℕ, ◌+◌, ◌-◌, ◌^◌, ◌<◌, Bool, not, ◌&&◌, nat_le, List, [], ◌∷◌, get_or, length, take, drop}
+use Rattle.cif_defs.specs.Words.{Word, bit, has_one, word, word_of}
 use Rattle.word_numbers.specs.declared.words.Words.{Words}
 
 -- the words of the widths ns that the numbers xs hold
@@ -29,3 +29,17 @@ raised_word k w = word (length w) (λ i. nat_le k i && bit w (i - k))
 -- a word moved down within its width, with a fill above
 abbrev pub lowered_word : ℕ → Bool → Word → Word
 lowered_word k fill w = word (length w) (λ i. get_or w (i + k) fill)
+
+-- ---- the lowest and the highest 1
+
+-- the lowest 1 alone
+abbrev pub lowest_one_word : Word → Word
+lowest_one_word w = word (length w) (λ i. bit w i && not (has_one (take i w)))
+
+-- the highest 1 alone
+abbrev pub highest_one_word : Word → Word
+highest_one_word w = word (length w) (λ i. bit w i && not (has_one (drop (i + 1) w)))
+
+-- ones from the highest 1 downward
+abbrev pub filled_word : Word → Word
+filled_word w = word (length w) (λ i. has_one (drop i w))

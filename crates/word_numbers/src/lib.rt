@@ -8,11 +8,13 @@
 mod flags;
 mod masks;
 mod moves;
+mod ones;
 mod widths;
 mod words;
 
 pub use flags::{bit, flag, has_one, is_all_ones, is_odd, top};
 pub use masks::{complement, lowest, mask, repeated};
 pub use moves::{lowered, raised};
+pub use ones::{filled, highest_one, lowest_one};
 pub use widths::{extend, join, slice};
 pub use words::Words;

@@ -1,4 +1,4 @@
-use Rattle.std.proofs.Common.{ap, bit_and, ◌∙◌, ◌≡◌, ◌%◌, ◌^◌, arith}
+use Rattle.std.proofs.Common.{ap, bit_and, ◌∙◌, arith}
 use Rattle.std.proofs.lemmas.Nat.{and_mask}
 use Rattle.cif_defs.specs.Words.{word_of}
 use Rattle.cif_defs.proofs.WordNumbers.{word_of-mod}

@@ -1,4 +1,4 @@
-use Rattle.std.proofs.Common.{arith, ◌≡◌, ◌/◌, ◌-◌, ◌^◌}
+use Rattle.std.proofs.Common.{arith}
 use Rattle.std.proofs.lemmas.Nat.{pow_pos}
 use Rattle.cif_arith.proofs.Residues.{mask-shr}
 use Rattle.word_numbers.proofs.MaskLaws.{word_of-mask}

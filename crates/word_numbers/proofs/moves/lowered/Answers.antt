@@ -1,5 +1,5 @@
-use Rattle.std.proofs.Common.{arith, ap, sym, ◌∙◌, ◌≡◌, ◌≤◌, ◌<◌, ◌/◌, ◌^◌}
-use Rattle.std.proofs.lemmas.Nat.{or_lt, and_le_l, shr_le}
+use Rattle.std.proofs.Common.{arith, ap, sym, ◌∙◌, ◌<◌, ◌/◌, ◌^◌}
+use Rattle.std.proofs.lemmas.Nat.{or_lt, shr_le}
 use Rattle.cif_defs.specs.Words.{word_of}
 use Rattle.word_numbers.specs.HeldWords.{lowered_word}
 use Rattle.word_numbers.proofs.Digits.{and_lt}

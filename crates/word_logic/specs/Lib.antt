@@ -1,0 +1,5 @@
+pub mod Extensions
+pub mod Chances
+pub mod LogicWords
+pub mod LogicForms
+pub mod FormOf
