@@ -1,0 +1,10 @@
+use Rattle.word_sums.proofs.SumTaintLaws.{sub_taint_is}
+use Rattle.word_sums.proofs.sum_taints.sub_taint.Goals as goal
+
+pub returns-clause-word : goal.returns-clause-word
+returns-clause-word c =
+    sub_taint_is c.args.shape c.args.values c.args.taints c.summand-first.result c.complemented.result c.summand-second.result c.sum_taint.result c.args.shape.some_a c.args.shape.some_b
+    (record { value = c.summand-first.ensures.value; taint = c.summand-first.ensures.taint; start = c.summand-first.ensures.start })
+    (record { value = c.complemented.ensures.value; taint = c.complemented.ensures.taint; start = c.complemented.ensures.start })
+    (record { value = c.summand-second.ensures.value; taint = c.summand-second.ensures.taint; start = c.summand-second.ensures.start })
+    c.sum_taint.ensures.value

@@ -1,0 +1,11 @@
+pub mod BoundNumbers
+pub mod SumNumbers
+pub mod Operands
+pub mod OrderNumbers
+pub mod CoarseWords
+pub mod Covered
+pub mod CellForms
+pub mod HeldForms
+pub mod AluWords
+pub mod AluNumbers
+pub mod AluForms
