@@ -1,1 +1,2 @@
 pub mod NarrowPorts
+pub mod SumForms

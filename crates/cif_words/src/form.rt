@@ -1,22 +1,37 @@
 // Forms of cells, over all families of kinds.
-ghost use Rattle.std.specs.Prelude.{◌≡◌, MatchOption, ⊤};
+ghost use Rattle.std.specs.Prelude.{◌≡◌, IsTrue, MatchOption, ⊤};
 ghost use Rattle.cif_defs.specs.Cells.{meaning};
 ghost use Rattle.cif_defs.specs.Fitted.{IsFitted, operand_widths};
 ghost use Rattle.cif_term.specs.CellTaints.{taint_words};
 ghost use Rattle.word_numbers.specs.HeldWords.{AreNarrow, words_held};
 ghost use Rattle.word_numbers.specs.NarrowCells.{output_widths};
+ghost use Rattle.word_sums.specs.CellForms.{IsNarrow};
 ghost use Rattle.cif_words.specs.Forms.{StandsFor};
 
 use crate::narrow_ports::has_narrow_ports;
-use cif_kinds::Cell;
+use cif_kinds::{Cell, Kind, Param};
 use word_logic::LogicForm;
 use word_numbers::Words;
+use word_sums::{AluForm, Form as NumberForm};
 
 /// What a narrow combinational cell says beside the words of its operands.
 #[derive(Clone, Copy, Debug, PartialEq, Eq, Drop)]
 pub enum WordForm {
     /// A bitwise, reducing or wiring cell.
     Logic(LogicForm),
+    /// A sum, a product, a division, a comparison or an equality.
+    Number(NumberForm),
+    /// `$alu`.
+    Adder(AluForm),
+}
+
+/// Whether the widths of a cell with operands A and B and the output Y are at most 128.
+fn has_narrow_numbers(cell: &Cell) -> bool
+    ensures { IsTrue result → IsNarrow cell.now }
+{
+    cell.number(Param::AWidth) <= 128
+        && cell.number(Param::BWidth) <= 128
+        && cell.number(Param::YWidth) <= 128
 }
 
 impl WordForm {
@@ -29,8 +44,15 @@ impl WordForm {
         if !has_narrow_ports(cell) || cell.operands().len() > 4 || cell.outputs().len() > 4 {
             return None;
         }
-        if rule_logic::covers(cell.kind()) {
+        let kind = cell.kind();
+        if rule_logic::covers(kind) {
             return Some(WordForm::Logic(LogicForm::of(cell)));
+        }
+        if word_sums::covers(kind) && has_narrow_numbers(cell) {
+            return Some(WordForm::Number(NumberForm::of(cell)));
+        }
+        if matches!(kind, Kind::Alu) {
+            return Some(WordForm::Adder(AluForm::of(cell)));
         }
         None
     }
@@ -46,6 +68,8 @@ impl WordForm {
         let _cell = cell;
         match self {
             WordForm::Logic(form) => form.value(values),
+            WordForm::Number(form) => form.value(values),
+            WordForm::Adder(form) => form.value(values),
         }
     }
 
@@ -62,6 +86,8 @@ impl WordForm {
         let _cell = cell;
         match self {
             WordForm::Logic(form) => form.taint(values, taints),
+            WordForm::Number(form) => form.taint(values, taints),
+            WordForm::Adder(form) => form.taint(values, taints),
         }
     }
 }

@@ -63,10 +63,10 @@ binary_kind Ge h = record { operands = refl; outputs = refl; no_memory = λ e. c
 binary_kind Gt h = record { operands = refl; outputs = refl; no_memory = λ e. cc; no_neg = refl }
 binary_kind _ h = absurd (cc)
 
-binary_rows : (c : Cell) → is_binary c.kind ≡ true → IsFitted c → HasRows c (a_row ∷ b_row ∷ []) (y_row ∷ [])
+pub binary_rows : (c : Cell) → is_binary c.kind ≡ true → IsFitted c → HasRows c (a_row ∷ b_row ∷ []) (y_row ∷ [])
 binary_rows c h f = let k = binary_kind c.kind h in has_rows c c.kind (a_row ∷ b_row ∷ []) (y_row ∷ []) refl k.no_memory k.operands k.outputs f
 
-neg_rows : (c : Cell) → c.kind ≡ Neg → IsFitted c → HasRows c (a_row ∷ []) (y_row ∷ [])
+pub neg_rows : (c : Cell) → c.kind ≡ Neg → IsFitted c → HasRows c (a_row ∷ []) (y_row ∷ [])
 unfolding operands_of outputs_of
 neg_rows c e f = has_rows c Neg (a_row ∷ []) (y_row ∷ []) e (λ q. absurd (cc)) refl refl f
 
