@@ -38,9 +38,9 @@ use Rattle.word_sums.specs.declared.sums.Carry.{Carry}
 use Rattle.word_sums.specs.declared.sums.Summand.{Summand}
 use Rattle.word_sums.specs.AluForms.{IsAluFormOf}
 use Rattle.word_sums.specs.AluNumbers.{AreAluOperands, IsAddend, IsShort, alu_carry_number, alu_sum_number, carries_number, full_number, greatest_bit, least_bit}
-use Rattle.word_sums.specs.AluWords.{alu_taint_of, alu_words}
+use Rattle.word_sums.specs.AluWords.{AreAluWords, alu_taint_of, alu_words}
 use Rattle.word_sums.specs.BoundNumbers.{bounds_of}
-use Rattle.word_sums.specs.CellForms.{output_widths}
+use Rattle.word_numbers.specs.NarrowCells.{output_widths}
 use Rattle.word_sums.specs.SumNumbers.{joined_number, single_taint, sum_number, sums_between, sums_number}
 use Rattle.word_sums.proofs.HeldNumbers.{Holds, holds_number, holds_or, holds_same, holds_word, holds_xor, number_holds, own_bits, word_holds}
 use Rattle.word_sums.proofs.SumLaws.{HoldsSummand, cases_hold, joined_holds, single_holds, sums_hold}
@@ -332,3 +332,10 @@ inverted_fits n b false h = h
 
 pub alu_value_fits : (n a b x : ℕ) (invert : Bool) → a < 2 ^ n → b < 2 ^ n → x ≡ bit_xor a (inverted_where invert n b) → x < 2 ^ n
 alu_value_fits n a b x invert h k e = subst (λ y. y < 2 ^ n) (sym e) (xor_lt n a (inverted_where invert n b) h (inverted_fits n b invert k))
+
+-- numbers of the widths of a cell's operands are those of its form
+pub held_by_alu : (s : Shape) (c : Cell) (w : Words) → IsAluFormOf s c → AreNarrow (operand_widths c) w → AreAluWords s w
+held_by_alu s c w i h =
+    let u = alu_cell c i.fitted i.kind in
+    let own : AreNarrow (number_of c AWidth ∷ number_of c BWidth ∷ 1 ∷ 1 ∷ []) w = subst (λ ns. AreNarrow ns w) u.widths h in
+    record { a = subst (λ k. w.a < 2 ^ k) (sym i.a) own.a; b = subst (λ k. w.b < 2 ^ k) (sym i.b) own.b; c = own.c; d = own.d }

@@ -1,28 +1,25 @@
 -- The coarse taint of products and divisions, on numbers.
-use Rattle.std.specs.Prelude.{ℕ, zero, suc, ◌+◌, ◌-◌, ◌*◌, ◌/◌, ◌%◌, ◌^◌, ◌<◌, ◌≤◌, ◌≡◌, ◌==◌, ◌⊎◌, nat_le, nat_lt, Bool, true, false, not, ◌&&◌, ◌||◌, bit_and, bit_or, bit_xor, length, take, drop, if◌then◌else◌, refl}
-use Rattle.std.specs.Int.Count.{count_leading_zeros}
-use Rattle.std.proofs.Common.{arith, sym, ap, ◌∙◌, inl, inr, subst}
-use Rattle.std.proofs.lemmas.List.{length-take}
+use Rattle.std.specs.Prelude.{ℕ, ◌+◌, ◌/◌, ◌%◌, ◌^◌, ◌<◌, ◌≤◌, ◌≡◌, ◌==◌, Bool, true, false, not, ◌&&◌, ◌||◌, bit_and, bit_or, bit_xor, length, take, drop, if◌then◌else◌, refl}
+use Rattle.std.proofs.Common.{arith, sym, ap, ◌∙◌, inl, inr}
 use Rattle.std.proofs.lemmas.Bool.Decides.{nat_tests}
-use Rattle.std.proofs.lemmas.Nat.{leading_length, pow_pos, xor_lt}
-use Rattle.std.proofs.Math.Nat.{div-le_self, mod-eq_of_lt, pow-succ', zero-div}
+use Rattle.std.proofs.Math.Nat.{mod-eq_of_lt}
 use Rattle.cif_defs.specs.Coarse.{either_taint, high_quotient, is_known_zero, low_quotient, max_word, min_word}
 use Rattle.cif_defs.specs.Meanings.{add_word, not_word, or_word}
 use Rattle.cif_defs.specs.Words.{Word, bit, digit, extend, has_one, number, word, word_of, xor}
-use Rattle.cif_defs.proofs.Numbers.{number_split, number_mono, word-same}
+use Rattle.cif_defs.proofs.Numbers.{number_mono, word-same}
 use Rattle.cif_defs.proofs.WordLaws.{bit-word, le_or_lt, length-word, past_word}
-use Rattle.cif_defs.proofs.WordNumbers.{extend-same, number-word_below, number-word_of, number_below}
+use Rattle.cif_defs.proofs.WordNumbers.{extend-same, number-word_of}
 use Rattle.cif_arith.proofs.Meanings.{word_of-add}
-use Rattle.cif_arith.proofs.Residues.{mask-shr}
 use Rattle.rule_coarse.specs.CoarseFormulas.{ones}
 use Rattle.rule_coarse.proofs.CoarseWords.{difference, quotients_differ, risen, some_number}
+use Rattle.word_numbers.specs.HeldWords.{filled_word}
 use Rattle.word_numbers.proofs.Digits.{word_of-or}
 use Rattle.word_sums.specs.declared.bounds.Bounds.{Bounds}
 use Rattle.word_sums.specs.declared.shape.Pair.{Pair}
 use Rattle.word_sums.specs.declared.shape.Shape.{Shape}
 use Rattle.word_sums.specs.BoundNumbers.{bounds_of}
 use Rattle.word_sums.specs.CoarseWords.{divides_of, division_taint_of, product_taint_of, quotient_taint_of}
-use Rattle.word_sums.proofs.HeldNumbers.{Holds, holds_and, holds_or, holds_word, holds_xor, ones_digit, own_bits, power_grows, word_holds}
+use Rattle.word_sums.proofs.HeldNumbers.{Holds, holds_and, holds_or, holds_word, holds_xor, own_bits, word_holds}
 
 -- ---- words with their tainted bits set and cleared
 
@@ -141,22 +138,6 @@ greatest_divides n v t b r e f h =
     let other : b.greatest ≡ (bounds_of n v t).greatest = ap (λ (x : Bounds). x.greatest) e in
     omega arith
 
--- what is left of a number above place i
-above_place : (x low high p : ℕ) → x ≡ low + p * high → low < p → nat_le p x ≡ not (high == 0)
-above_place x low zero p e h = grind (arith, nat_tests)
-above_place x low (suc high) p e h =
-    let more : p ≤ x = omega arith in
-    let t : nat_le p x ≡ true = grind (arith, nat_tests) in
-    let some : (suc high == 0) ≡ false = grind (arith, nat_tests) in
-    t ∙ sym (ap not some)
-
-drop_tells : (i : ℕ) (w : Word) → has_one (drop i w) ≡ nat_le (2 ^ i) (number w)
-drop_tells i w =
-    let low : number (take i w) < 2 ^ length (take i w) = number_below (take i w) in
-    let few : length (take i w) ≤ i = omega (arith, length-take i w) in
-    let power : 2 ^ length (take i w) ≤ 2 ^ i = power_grows (length (take i w)) i few in
-    some_number (drop i w) ∙ sym (above_place (number w) (number (take i w)) (number (drop i w)) (2 ^ i) (number_split i w) (omega arith))
-
 difference_held : (n p q : ℕ) → difference (word_of n p) (word_of n q) ≡ word_of n (bit_xor p q)
 difference_held n p q =
     ap (λ k. word k (λ i. xor (bit (word_of n p) i) (bit (word_of n q) i))) (length-word n _)
@@ -166,52 +147,18 @@ difference_held n p q =
 held_number : (n p : ℕ) → p < 2 ^ n → number (word_of n p) ≡ p
 held_number n p h = number-word_of n p ∙ mod-eq_of_lt h
 
--- two numbers differ at place i or above it where their exclusive or reaches it
-apart_is : (n i p q : ℕ) → p < 2 ^ n → q < 2 ^ n → nat_le (2 ^ i) (bit_xor p q) ≡ not (p / 2 ^ i == q / 2 ^ i)
+-- two numbers differ at place i or above it where their exclusive or has a 1 there
+apart_is : (n i p q : ℕ) → p < 2 ^ n → q < 2 ^ n → has_one (drop i (word_of n (bit_xor p q))) ≡ not (p / 2 ^ i == q / 2 ^ i)
 apart_is n i p q h k =
     sym (
     ap (λ x. not (x / 2 ^ i == q / 2 ^ i)) (sym (held_number n p h)) ∙ ap (λ x. not (number (word_of n p) / 2 ^ i == x / 2 ^ i)) (sym (held_number n q k))
     ∙ quotients_differ i (word_of n p) (word_of n q) (length-word n _ ∙ sym (length-word n _))
-    ∙ ap (λ (w : Word). has_one (drop i w)) (difference_held n p q) ∙ drop_tells i (word_of n (bit_xor p q)) ∙ ap (nat_le (2 ^ i)) (held_number n (bit_xor p q) (xor_lt n p q h k)))
-
--- ---- up to the highest 1
-
-place_reached : (i m x : ℕ) → (i < m) ⊎ (m ≤ i) → x < 2 ^ m → 2 ^ m ≤ 2 * x + 1 → nat_lt i m ≡ nat_le (2 ^ i) x
-place_reached i m x (inl l) h k =
-    let power : 2 ^ suc i ≡ 2 * 2 ^ i = pow-succ' 2 i in
-    let more : 2 ^ suc i ≤ 2 ^ m = power_grows (suc i) m (omega arith) in
-    let reached : 2 ^ i ≤ x = omega arith in
-    let s : nat_lt i m ≡ true = grind (arith, nat_tests) in
-    let t : nat_le (2 ^ i) x ≡ true = grind (arith, nat_tests) in
-    s ∙ sym t
-place_reached i m x (inr l) h k =
-    let more : 2 ^ m ≤ 2 ^ i = power_grows m i l in
-    let s : nat_lt i m ≡ false = grind (arith, nat_tests) in
-    let t : nat_le (2 ^ i) x ≡ false = grind (arith, nat_tests) in
-    s ∙ sym t
-
-pub filled_is : (x r z i : ℕ) → x < 2 ^ 128 → z ≡ count_leading_zeros 128 x → r ≡ (2 ^ 128 - 1) / 2 ^ z → digit r i ≡ nat_le (2 ^ i) x
-filled_is x r z i h e f =
-    let found = leading_length 128 x h in
-    let m : ℕ = found.0 in
-    let whole : count_leading_zeros 128 x + m ≡ 128 = found.1 in
-    let rest : z ≡ 128 - m = omega arith in
-    ap (λ y. digit y i) (f ∙ ap (λ y. (2 ^ 128 - 1) / 2 ^ y) rest ∙ mask-shr 128 m (omega arith)) ∙ ones_digit m i (le_or_lt i m) ∙ place_reached i m x (le_or_lt i m) found.2 found.3
-
-pub none_filled : (x i : ℕ) → x ≡ 0 → digit 0 i ≡ nat_le (2 ^ i) x
-none_filled x i e =
-    let some : 0 < 2 ^ i = pow_pos i in
-    let t : nat_le (2 ^ i) x ≡ false = grind (arith, nat_tests) in
-    ap (λ k. k % 2 == 1) (zero-div (2 ^ i)) ∙ sym t
+    ∙ ap (λ (w : Word). has_one (drop i w)) (difference_held n p q))
 
 -- ---- the taint of a quotient
 
 abbrev bound_by : Bool → ℕ → ℕ → ℕ → ℕ
 bound_by unsure whole dividend divisor = if unsure then whole else dividend / divisor
-
-bound_small : (unsure : Bool) (n w d k : ℕ) → w < n → d < n → bound_by unsure w d k < n
-bound_small true n w d k h l = h
-bound_small false n w d k h l = let less : d / k ≤ d = div-le_self d k in omega arith
 
 low_is : (s : Shape) (v t : Pair) (a b : Bounds) → a ≡ bounds_of s.a v.a t.a → b ≡ bounds_of s.b v.b t.b
     → bound_by (b.least == 0) 0 a.least b.greatest ≡ low_quotient (word_of s.a v.a) (word_of s.a t.a) (word_of s.b v.b) (word_of s.b t.b)
@@ -228,25 +175,15 @@ high_is s v t a b e f =
     ∙ sym (ap (λ z. bound_by (z == 0) (number (max_word (word_of s.a v.a) (word_of s.a t.a))) (number (max_word (word_of s.a v.a) (word_of s.a t.a))) z) (min_held s.b v.b t.b)
     ∙ ap (λ z. bound_by ((bounds_of s.b v.b t.b).least == 0) z z (bounds_of s.b v.b t.b).least) (largest_held s.a v.a t.a))
 
-bounds_small : (n v t : ℕ) (b : Bounds) → n ≤ 128 → b ≡ bounds_of n v t → (b.least < 2 ^ 128) × (b.greatest < 2 ^ 128)
-bounds_small n v t b h e =
-    let more : 2 ^ n ≤ 2 ^ 128 = power_grows n 128 h in
-    let one : b.least ≡ (bounds_of n v t).least = ap (λ (x : Bounds). x.least) e in
-    let other : b.greatest ≡ (bounds_of n v t).greatest = ap (λ (x : Bounds). x.greatest) e in
-    let l : (bounds_of n v t).least < 2 ^ n = number-word_below n _ in
-    let g : (bounds_of n v t).greatest < 2 ^ n = number-word_below n _ in
-    (omega arith, omega arith)
-
-pub quotient_taint_is : (s : Shape) (v t : Pair) (a b : Bounds) (low high p k : ℕ) (d : Bool) → s.y ≤ 128 → s.a ≤ 128 → a ≡ bounds_of s.a v.a t.a → b ≡ bounds_of s.b v.b t.b
-    → low ≡ bound_by (b.least == 0) 0 a.least b.greatest → high ≡ bound_by (b.least == 0) a.greatest a.greatest b.least → ((i : ℕ) → i < 128 → digit p i ≡ nat_le (2 ^ i) (bit_xor low high))
+pub quotient_taint_is : (s : Shape) (v t : Pair) (a b : Bounds) (low high p k : ℕ) (d : Bool) → s.y ≤ 128 → low < 2 ^ 128 → high < 2 ^ 128 → a ≡ bounds_of s.a v.a t.a → b ≡ bounds_of s.b v.b t.b
+    → low ≡ bound_by (b.least == 0) 0 a.least b.greatest → high ≡ bound_by (b.least == 0) a.greatest a.greatest b.least → word_of 128 p ≡ filled_word (word_of 128 (bit_xor low high))
     → d ≡ divides_of s v t → word_of s.y k ≡ word s.y (λ i. d) → word_of s.y (bit_and p k) ≡ quotient_taint_of s v t
 unfolding quotient_taint_of
-quotient_taint_is s v t a b low high p k d fit fit_a e f g h places di all =
-    let fits = bounds_small s.a v.a t.a a fit_a e in
+quotient_taint_is s v t a b low high p k d fit low_fits high_fits e f g h places di all =
     let tainted : Bool = has_one (word_of s.a t.a) || has_one (word_of s.b t.b) in
-    let low_fits : low < 2 ^ 128 = subst (λ x. x < 2 ^ 128) (sym g) (bound_small (b.least == 0) (2 ^ 128) 0 a.least b.greatest (omega arith) fits.0) in
-    let high_fits : high < 2 ^ 128 = subst (λ x. x < 2 ^ 128) (sym h) (bound_small (b.least == 0) (2 ^ 128) a.greatest a.greatest b.least fits.1 fits.1) in
-    let reached : Holds s.y p (λ i. not (low / 2 ^ i == high / 2 ^ i)) = record { bits = λ i l. places i (omega arith) ∙ apart_is 128 i low high low_fits high_fits } in
+    let apart : Word = word_of 128 (bit_xor low high) in
+    let filled : Holds 128 p (λ i. has_one (drop i apart)) = word_holds 128 p (λ i. has_one (drop i apart)) (places ∙ ap (λ n. word n (λ i. has_one (drop i apart))) (length-word 128 (digit (bit_xor low high)))) in
+    let reached : Holds s.y p (λ i. not (low / 2 ^ i == high / 2 ^ i)) = record { bits = λ i l. filled.bits i (omega arith) ∙ apart_is 128 i low high low_fits high_fits } in
     holds_word s.y (bit_and p k) _ (holds_and reached (word_holds s.y k _ all))
     ∙ ap (λ x. word s.y (λ i. not (x / 2 ^ i == high / 2 ^ i) && d)) (g ∙ low_is s v t a b e f)
     ∙ ap (λ x. word s.y (λ i. not (low_quotient (word_of s.a v.a) (word_of s.a t.a) (word_of s.b v.b) (word_of s.b t.b) / 2 ^ i == x / 2 ^ i) && d)) (h ∙ high_is s v t a b e f)

@@ -26,13 +26,15 @@ use Rattle.rule_arith.proofs.SumTaints.{add_taints, sub_taints}
 use Rattle.rule_coarse.proofs.CoarseShapes.{coarse_taint}
 use Rattle.rule_logic.proofs.Shapes.{HasRows, has_rows}
 use Rattle.word_numbers.specs.HeldWords.{AreNarrow, words_held}
+use Rattle.word_numbers.specs.NarrowCells.{AreWithin128, IsNarrow, output_widths}
 use Rattle.word_numbers.specs.declared.words.Words.{Words}
 use Rattle.word_sums.specs.declared.form.Form.{Form}
 use Rattle.word_sums.specs.declared.shape.Pair.{Pair}
 use Rattle.word_sums.specs.declared.shape.Shape.{Shape}
-use Rattle.word_sums.specs.CellForms.{IsFormOf, div_taint_of, output_widths, taint_row, value_row}
+use Rattle.word_sums.specs.CellForms.{IsFormOf, div_taint_of, taint_row, value_row}
 use Rattle.word_sums.specs.CoarseWords.{division_taint_of, product_taint_of, quotient_taint_of}
 use Rattle.word_sums.specs.Covered.{covers_numbers, is_binary, is_neg}
+use Rattle.word_sums.specs.HeldForms.{IsHeldBy}
 use Rattle.word_sums.specs.Operands.{pair_words, row_of, taint_of, taint_of_one}
 
 -- ---- ports
@@ -318,3 +320,42 @@ binary_narrow f c r w h i e l = let rows = binary_rows c (sym (ap is_binary i.ki
 
 pub neg_narrow : (f : Form) (c : Cell) (r : ℕ) (w : Words) → f.kind ≡ Neg → IsFormOf f c → w ≡ record { a = r; b = 0; c = 0; d = 0 } → r < 2 ^ f.shape.y → AreNarrow (output_widths c) w
 neg_narrow f c r w k i e l = let rows = neg_rows c (sym i.kind ∙ k) i.fitted in narrow_output c f.shape.y r w e rows.output_rows i.y l
+
+-- ---- a narrow cell
+
+pub record HasFew (c : Cell) : Type 0 where
+  pub a : number_of c AWidth ≤ 128
+  pub b : is_neg c.kind ≡ false → number_of c BWidth ≤ 128
+  pub y : y_width c ≤ 128
+
+few_by : (c : Cell) (n : Bool) → is_neg c.kind ≡ n → covers_numbers c.kind ≡ true → IsFitted c → IsNarrow c → HasFew c
+few_by c true e h f w =
+    let r : HasRows c (a_row ∷ []) (y_row ∷ []) = neg_rows c (is_neg_kind c.kind e) f in
+    let ins : AreWithin128 (number_of c AWidth ∷ []) = subst (λ ns. AreWithin128 ns) r.widths w.operands in
+    let outs : AreWithin128 (y_width c ∷ []) = subst (λ ns. AreWithin128 ns) (ap (map (row_width c)) r.output_rows) w.outputs in
+    record { a = ins.0; b = λ q. absurd (cc); y = outs.0 }
+few_by c false e h f w =
+    let r : HasRows c (a_row ∷ b_row ∷ []) (y_row ∷ []) = binary_rows c (covered_kind c.kind h e) f in
+    let ins : AreWithin128 (number_of c AWidth ∷ number_of c BWidth ∷ []) = subst (λ ns. AreWithin128 ns) r.widths w.operands in
+    let outs : AreWithin128 (y_width c ∷ []) = subst (λ ns. AreWithin128 ns) (ap (map (row_width c)) r.output_rows) w.outputs in
+    record { a = ins.0; b = λ q. (let j = ins.1 in j.0); y = outs.0 }
+
+pub has_few : (c : Cell) → covers_numbers c.kind ≡ true → IsFitted c → IsNarrow c → HasFew c
+has_few c h f w = few_by c (is_neg c.kind) refl h f w
+
+-- ---- numbers of the widths of a cell's operands are those of its form
+
+held_by_kind : (f : Form) (c : Cell) (w : Words) (n : Bool) → is_neg c.kind ≡ n → covers_numbers c.kind ≡ true → IsFormOf f c → AreNarrow (operand_widths c) w → IsHeldBy f w
+held_by_kind f c w true e h i s =
+    let r : HasRows c (a_row ∷ []) (y_row ∷ []) = neg_rows c (is_neg_kind c.kind e) i.fitted in
+    let own : AreNarrow (number_of c AWidth ∷ []) w = subst (λ ns. AreNarrow ns w) r.widths s in
+    let none : w.b < 2 ^ 0 = own.b in
+    let power : 1 ≤ 2 ^ f.shape.b = pow_pos f.shape.b in
+    record { a = subst (λ k. w.a < 2 ^ k) (sym i.a) own.a; b = omega arith }
+held_by_kind f c w false e h i s =
+    let r : HasRows c (a_row ∷ b_row ∷ []) (y_row ∷ []) = binary_rows c (covered_kind c.kind h e) i.fitted in
+    let own : AreNarrow (number_of c AWidth ∷ number_of c BWidth ∷ []) w = subst (λ ns. AreNarrow ns w) r.widths s in
+    record { a = subst (λ k. w.a < 2 ^ k) (sym i.a) own.a; b = subst (λ k. w.b < 2 ^ k) (sym (i.b e)) own.b }
+
+pub held_by : (f : Form) (c : Cell) (w : Words) → IsFormOf f c → AreNarrow (operand_widths c) w → IsHeldBy f w
+held_by f c w i s = held_by_kind f c w (is_neg c.kind) refl (sym (ap covers_numbers i.kind) ∙ f.covered) i s

@@ -1,9 +1,8 @@
 -- Cells made ready, and the words and taints that they give over numbers.
-use Rattle.std.specs.Prelude.{ℕ, ◌≤◌, ◌≡◌, Bool, false, List, [], map, if◌then◌else◌}
+use Rattle.std.specs.Prelude.{◌≡◌, Bool, false, [], if◌then◌else◌}
 use Rattle.cif_defs.specs.Cells.{Cell, a_signed, both_signed, number_of, y_width}
-use Rattle.cif_defs.specs.Fitted.{IsFitted, row_width}
+use Rattle.cif_defs.specs.Fitted.{IsFitted}
 use Rattle.cif_defs.specs.Meanings.{add_word, div_word, divfloor_word, eq_word, ge_word, gt_word, le_word, lt_word, mod_word, modfloor_word, mul_word, ne_word, sub_word}
-use Rattle.cif_defs.specs.Table.{outputs_of}
 use Rattle.cif_defs.specs.Words.{Word}
 use Rattle.cif_defs.specs.declared.kinds.Kind.{Kind}
 use Rattle.cif_defs.specs.declared.kinds.Kind.TheVariants.{Add, Sub, Mul, Div, Mod, DivFloor, ModFloor, Eq, Ne, Eqx, Nex, Lt, Le, Ge, Gt}
@@ -68,12 +67,6 @@ taint_row _ s v t = []
 abbrev pub signed_cell : Cell → Bool
 signed_cell c = if is_neg c.kind then a_signed c else both_signed c
 
--- no operand and no output of more than 128 bits
-pub record IsNarrow (c : Cell) : Type 0 where
-  pub a : number_of c AWidth ≤ 128
-  pub b : is_neg c.kind ≡ false → number_of c BWidth ≤ 128
-  pub y : y_width c ≤ 128
-
 pub record IsFormOf (f : Form) (c : Cell) : Type 0 where
   pub kind : f.kind ≡ c.kind
   pub a : f.shape.a ≡ number_of c AWidth
@@ -81,7 +74,3 @@ pub record IsFormOf (f : Form) (c : Cell) : Type 0 where
   pub y : f.shape.y ≡ y_width c
   pub signed : f.shape.signed ≡ signed_cell c
   pub fitted : IsFitted c
-
--- how many bits each output of a cell has
-abbrev pub output_widths : Cell → List ℕ
-output_widths c = map (row_width c) (outputs_of c.kind)

@@ -154,7 +154,7 @@ impl AluForm {
     ghost use Rattle.cif_term.specs.CellTaints.{taint_words};
     ghost use Rattle.word_numbers.specs.HeldWords.{AreNarrow, words_held};
     ghost use Rattle.word_sums.specs.AluForms.{IsAluFormOf};
-    ghost use Rattle.word_sums.specs.CellForms.{output_widths};
+    ghost use Rattle.word_numbers.specs.NarrowCells.{output_widths};
 
     /// The form of a cell.
     pub fn of(cell: &Cell) -> AluForm

@@ -1,13 +1,13 @@
 // The coarse taint of products and divisions.
-ghost use Rattle.std.specs.Prelude.{ℕ, ◌≡◌, ◌^◌, ◌<◌, ◌≤◌, ◌+◌, ◌/◌, false, nat_le, take, if◌then◌else◌};
-ghost use Rattle.cif_defs.specs.Words.{digit, has_one, word, word_of};
+ghost use Rattle.std.specs.Prelude.{◌≡◌, ◌^◌, ◌<◌, ◌≤◌, ◌+◌, ◌/◌, false, take, if◌then◌else◌};
+ghost use Rattle.cif_defs.specs.Words.{has_one, word, word_of};
 ghost use Rattle.word_sums.specs.CoarseWords.{divides_of, division_taint_of, product_taint_of, quotient_taint_of};
 ghost use Rattle.word_sums.specs.Operands.{IsPairOf};
 
 use crate::bounds::Bounds;
 use crate::shape::{Pair, Shape, summand};
 use cif_arith::add;
-use word_numbers::{complement, has_one, lowest, mask, repeated};
+use word_numbers::{complement, filled, has_one, mask, repeated};
 
 // ---- divisions: every bit or none
 
@@ -62,17 +62,6 @@ pub fn product_taint(shape: Shape, values: Pair, taints: Pair) -> u128
 
 // ---- unsigned quotients: every bit up to the highest place where the least and the largest quotient differ
 
-/// The places below as many as a number has digits.
-fn up_to_highest(number: u128) -> u128
-    ensures { (i : ℕ) → i < 128 → digit result i ≡ nat_le (2 ^ i) number }
-{
-    if number == 0 {
-        0
-    } else {
-        u128::MAX >> number.leading_zeros()
-    }
-}
-
 /// A quotient of bounds of A and B: where B can be 0, what stands for it.
 fn quotient_bound(unsure: bool, whole: u128, dividend: u128, divisor: u128) -> u128
     requires { unsure ≡ false → 0 < divisor }
@@ -95,5 +84,5 @@ pub fn quotient_taint(shape: Shape, values: Pair, taints: Pair) -> u128
     let low = quotient_bound(unsure, 0, a.least, b.greatest);
     let high = quotient_bound(unsure, a.greatest, a.greatest, b.least);
     let tainted = divides(shape, values, taints);
-    up_to_highest(low ^ high) & repeated(shape.y, tainted)
+    filled(low ^ high) & repeated(shape.y, tainted)
 }

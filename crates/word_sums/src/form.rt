@@ -63,7 +63,8 @@ impl Form {
     ghost use Rattle.cif_defs.specs.Fitted.{IsFitted, operand_widths};
     ghost use Rattle.cif_term.specs.CellTaints.{taint_words};
     ghost use Rattle.word_numbers.specs.HeldWords.{AreNarrow, words_held};
-    ghost use Rattle.word_sums.specs.CellForms.{IsFormOf, IsNarrow, output_widths, signed_cell};
+    ghost use Rattle.word_sums.specs.CellForms.{IsFormOf, signed_cell};
+    ghost use Rattle.word_numbers.specs.NarrowCells.{IsNarrow, output_widths};
     ghost use Rattle.word_sums.specs.HeldForms.{IsHeldBy};
 
     /// The width of B, or 1 where a cell has no B.

@@ -1,6 +1,6 @@
 use Rattle.std.proofs.Common.{ap, ◌∙◌}
 use Rattle.word_numbers.specs.HeldWords.{words_held}
-use Rattle.word_sums.specs.CellForms.{output_widths}
+use Rattle.word_numbers.specs.NarrowCells.{output_widths}
 use Rattle.word_sums.proofs.AluLaws.{alu_carry_is, alu_sum_is, alu_taint_means, alu_xor_is, narrow_three}
 use Rattle.word_sums.proofs.alu.AluForm.taint.Goals as goal
 

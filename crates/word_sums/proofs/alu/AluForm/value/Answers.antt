@@ -1,6 +1,6 @@
 use Rattle.std.proofs.Common.{ap, ◌∙◌}
 use Rattle.word_numbers.specs.HeldWords.{words_held}
-use Rattle.word_sums.specs.CellForms.{output_widths}
+use Rattle.word_numbers.specs.NarrowCells.{output_widths}
 use Rattle.word_sums.proofs.AluLaws.{alu_value_fits, alu_value_is, carries_fit, narrow_three}
 use Rattle.word_sums.proofs.ValueLaws.{cut_fits}
 use Rattle.word_sums.proofs.alu.AluForm.value.Goals as goal

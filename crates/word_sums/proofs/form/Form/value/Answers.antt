@@ -1,6 +1,6 @@
 use Rattle.std.proofs.Common.{sym, ap, ◌∙◌}
 use Rattle.word_numbers.specs.HeldWords.{words_held}
-use Rattle.word_sums.specs.CellForms.{output_widths}
+use Rattle.word_numbers.specs.NarrowCells.{output_widths}
 use Rattle.word_sums.proofs.FormLaws.{binary_narrow, neg_narrow, binary_value_is, covered_kind, is_neg_kind, neg_value_is}
 use Rattle.word_sums.proofs.form.Form.value.Goals as goal
 
