@@ -35,13 +35,16 @@ taint-or k n x tx y ty e l h m =
     word_of-shown n (2 ^ 128 - 1 - x) tx (2 ^ 128 - 1 - y) ty (λ i. not (bit (word_of n x) i)) (λ i. not (bit (word_of n y) i)) (word_of-not n x l h) (word_of-not n y l m)
     ∙ sym (ap (λ j. binary_taint j n false (word_of n x) (word_of n tx) (word_of n y) (word_of n ty)) e)
 
-pub taint-xor : (k : Kind) (n x tx y ty : ℕ) → k ≡ Xor → word_of n (bit_or tx ty) ≡ binary_taint k n false (word_of n x) (word_of n tx) (word_of n y) (word_of n ty)
-unfolding binary_taint
-taint-xor k n x tx y ty e = word_of-or n tx ty ∙ sym (ap (λ j. binary_taint j n false (word_of n x) (word_of n tx) (word_of n y) (word_of n ty)) e)
+abbrev pub is_exclusive : Kind → Bool
+is_exclusive Xor = true
+is_exclusive Xnor = true
+is_exclusive _ = false
 
-pub taint-xnor : (k : Kind) (n x tx y ty : ℕ) → k ≡ Xnor → word_of n (bit_or tx ty) ≡ binary_taint k n false (word_of n x) (word_of n tx) (word_of n y) (word_of n ty)
+pub taint-exclusive : (k : Kind) (n x tx y ty : ℕ) → is_exclusive k ≡ true → word_of n (bit_or tx ty) ≡ binary_taint k n false (word_of n x) (word_of n tx) (word_of n y) (word_of n ty)
 unfolding binary_taint
-taint-xnor k n x tx y ty e = word_of-or n tx ty ∙ sym (ap (λ j. binary_taint j n false (word_of n x) (word_of n tx) (word_of n y) (word_of n ty)) e)
+taint-exclusive Xor n x tx y ty e = word_of-or n tx ty
+taint-exclusive Xnor n x tx y ty e = word_of-or n tx ty
+taint-exclusive _ n x tx y ty e = absurd (cc)
 
 pub shown-fits : (n x tx y ty : ℕ) → tx < 2 ^ n → ty < 2 ^ n → bit_or (bit_and tx ty) (bit_or (bit_and tx y) (bit_and ty x)) < 2 ^ n
 shown-fits n x tx y ty h l = or_lt n _ _ (and_lt n tx ty h) (or_lt n _ _ (and_lt n tx y h) (and_lt n ty x l))

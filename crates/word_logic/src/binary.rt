@@ -76,8 +76,7 @@ fn bitwise_taint(kind: Kind, width: u32, x: u128, tx: u128, y: u128, ty: u128) -
     match kind {
         Kind::And => (tx & ty) | ((tx & y) | (ty & x)),
         Kind::Or => (tx & ty) | ((tx & !y) | (ty & !x)),
-        Kind::Xor => tx | ty,
-        Kind::Xnor => tx | ty,
+        Kind::Xor | Kind::Xnor => tx | ty,
         _ => unreachable!(),
     }
 }

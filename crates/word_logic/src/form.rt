@@ -87,7 +87,10 @@ impl LogicForm {
         }
     }
 
-    /// The words of the outputs of a cell of this form, from the words of its operands.
+    /// The words of the outputs of a cell of this form, from the words of its operands, as the Yosys cell library has
+    /// its kind without x.
+    ///
+    /// Each number is below 2 to the width of its port, and 0 where there is no port; so is each in the answer.
     pub fn value(&self, values: &Words) -> Words
         requires sound { IsSound self.now }
         requires values { AreNarrow (form_operands self.now) values.now }
@@ -99,7 +102,9 @@ impl LogicForm {
     }
 
     /// The exact taints of the words of the outputs of a cell of this form, from the words of its operands and their
-    /// taints.
+    /// taints: a bit is tainted where two fillings of the tainted operand bits show it differently, as GLIFT has it.
+    ///
+    /// Each number is below 2 to the width of its port, and 0 where there is no port; so is each in the answer.
     pub fn taint(&self, values: &Words, taints: &Words) -> Words
         requires sound { IsSound self.now }
         requires values { AreNarrow (form_operands self.now) values.now }

@@ -13,6 +13,8 @@ mod bounds;
 mod extension;
 mod form;
 mod read;
+#[cfg(test)]
+mod tests;
 mod unary;
 
 pub use extension::Extension;

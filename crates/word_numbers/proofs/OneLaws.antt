@@ -160,6 +160,41 @@ lowest-is n x r p f h e =
     let made : r ≡ 2 ^ trailing_zeros w128 x = e ∙ one_shl (trailing_zeros w128 x) 128 found.0 in
     ap (word_of n) made ∙ word_of-digits n (2 ^ trailing_zeros w128 x) _ (λ i l. lowest_digit n x (trailing_zeros w128 x) i l h (ap (λ k. k == 1) found.1) found.2 (le_or_lt i (trailing_zeros w128 x)) (le_or_lt (trailing_zeros w128 x) i)) ∙ of_length n x _
 
+-- ---- what was found fits wherever the number does
+
+pub highest-fits : (n x r : ℕ) → 0 < x → x < 2 ^ 128 → x < 2 ^ n → r ≡ 1 * 2 ^ (127 - count_leading_zeros 128 x) % 2 ^ 128 → r < 2 ^ n
+highest-fits n x r p f h e =
+    let found = leading_top 128 x p f in
+    let whole : count_leading_zeros 128 x + suc found.0 ≡ 128 = found.1 in
+    let place : 127 - count_leading_zeros 128 x ≡ found.0 = omega arith in
+    let made : r ≡ 2 ^ found.0 = e ∙ ap (λ k. 1 * 2 ^ k % 2 ^ 128) place ∙ one_shl found.0 128 (omega arith) in
+    let least : 2 ^ found.0 ≤ x = found.2 in
+    omega arith
+
+ones_fit : (n x j : ℕ) → x < 2 ^ n → 2 ^ j ≤ x → (j < n) ⊎ (n ≤ j) → 2 ^ suc j ≤ 2 ^ n
+ones_fit n x j h l (inl below) = pow_mono {i = suc j} {j = n} (omega arith)
+ones_fit n x j h l (inr above) = absurd (let more : 2 ^ n ≤ 2 ^ j = pow_mono {i = n} {j = j} above in omega arith)
+
+pub filled-fits : (n x r : ℕ) → 0 < x → x < 2 ^ 128 → x < 2 ^ n → r ≡ (2 ^ 128 - 1) / 2 ^ count_leading_zeros 128 x → r < 2 ^ n
+filled-fits n x r p f h e =
+    let found = leading_top 128 x p f in
+    let whole : count_leading_zeros 128 x + suc found.0 ≡ 128 = found.1 in
+    let place : count_leading_zeros 128 x ≡ 128 - suc found.0 = omega arith in
+    let made : r ≡ 2 ^ suc found.0 - 1 = e ∙ ap (λ k. (2 ^ 128 - 1) / 2 ^ k) place ∙ mask-shr 128 (suc found.0) (omega arith) in
+    let room : 2 ^ suc found.0 ≤ 2 ^ n = ones_fit n x found.0 h found.2 (le_or_lt found.0 n) in
+    omega (arith, pow_pos (suc found.0))
+
+power_fits : (x t : ℕ) → digit x t ≡ true → (x < 2 ^ t) ⊎ (2 ^ t ≤ x) → 2 ^ t ≤ x
+power_fits x t e (inl below) = absurd (let none : digit x t ≡ false = digit_above t x t below (omega arith) in cc)
+power_fits x t e (inr l) = l
+
+pub lowest-fits : (n x r : ℕ) → 0 < x → x < 2 ^ 128 → x < 2 ^ n → r ≡ 1 * 2 ^ count_trailing_zeros 128 x % 2 ^ 128 → r < 2 ^ n
+lowest-fits n x r p f h e =
+    let found = bit_at-trailing_zeros w128 x p f in
+    let made : r ≡ 2 ^ trailing_zeros w128 x = e ∙ one_shl (trailing_zeros w128 x) 128 found.0 in
+    let least : 2 ^ trailing_zeros w128 x ≤ x = power_fits x (trailing_zeros w128 x) (ap (λ k. k == 1) found.1) (le_or_lt x (2 ^ trailing_zeros w128 x)) in
+    omega arith
+
 -- ---- where no bit is 1
 
 digit_zero : (i : ℕ) → digit 0 i ≡ false

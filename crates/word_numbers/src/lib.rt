@@ -9,6 +9,8 @@ mod flags;
 mod masks;
 mod moves;
 mod ones;
+#[cfg(test)]
+mod tests;
 mod widths;
 mod words;
 

@@ -5,7 +5,8 @@ ghost use Rattle.word_numbers.specs.HeldWords.{filled_word, highest_one_word, lo
 
 /// The lowest 1 alone, at any width that the number has room in; 0 where no bit is 1.
 pub fn lowest_one(number: u128) -> u128
-    ensures { (n : ℕ) → number < 2 ^ n → word_of n result ≡ lowest_one_word (word_of n number) }
+    ensures word { (n : ℕ) → number < 2 ^ n → word_of n result ≡ lowest_one_word (word_of n number) }
+    ensures fits { (n : ℕ) → number < 2 ^ n → result < 2 ^ n }
 {
     if number == 0 {
         0
@@ -16,7 +17,8 @@ pub fn lowest_one(number: u128) -> u128
 
 /// The highest 1 alone, at any width that the number has room in; 0 where no bit is 1.
 pub fn highest_one(number: u128) -> u128
-    ensures { (n : ℕ) → number < 2 ^ n → word_of n result ≡ highest_one_word (word_of n number) }
+    ensures word { (n : ℕ) → number < 2 ^ n → word_of n result ≡ highest_one_word (word_of n number) }
+    ensures fits { (n : ℕ) → number < 2 ^ n → result < 2 ^ n }
 {
     if number == 0 {
         0
@@ -27,7 +29,8 @@ pub fn highest_one(number: u128) -> u128
 
 /// Ones from the highest 1 downward, at any width that the number has room in; 0 where no bit is 1.
 pub fn filled(number: u128) -> u128
-    ensures { (n : ℕ) → number < 2 ^ n → word_of n result ≡ filled_word (word_of n number) }
+    ensures word { (n : ℕ) → number < 2 ^ n → word_of n result ≡ filled_word (word_of n number) }
+    ensures fits { (n : ℕ) → number < 2 ^ n → result < 2 ^ n }
 {
     if number == 0 {
         0

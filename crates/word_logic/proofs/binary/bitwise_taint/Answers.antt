@@ -1,6 +1,6 @@
-use Rattle.std.proofs.Common.{arith}
+use Rattle.std.proofs.Common.{arith, rules, ◌≡◌, true}
 use Rattle.std.proofs.lemmas.Nat.{or_lt}
-use Rattle.word_logic.proofs.BitwiseTaints.{shown-fits, taint-and, taint-or, taint-xnor, taint-xor}
+use Rattle.word_logic.proofs.BitwiseTaints.{is_exclusive, shown-fits, taint-and, taint-exclusive, taint-or}
 use Rattle.word_logic.proofs.binary.bitwise_taint.Goals as goal
 
 pub returns-in-And-clause-word : goal.returns-in-And-clause-word
@@ -16,13 +16,9 @@ pub returns-in-Or-clause-fits : goal.returns-in-Or-clause-fits
 returns-in-Or-clause-fits c = shown-fits c.args.width _ c.args.tx _ c.args.ty c.requires.tx_fits c.requires.ty_fits
 
 pub returns-in-Xor-clause-word : goal.returns-in-Xor-clause-word
-returns-in-Xor-clause-word c = taint-xor c.args.kind c.args.width c.args.x c.args.tx c.args.y c.args.ty c.in-Xor.is
+returns-in-Xor-clause-word c =
+    let exclusive : is_exclusive c.args.kind ≡ true = search rules in
+    taint-exclusive c.args.kind c.args.width c.args.x c.args.tx c.args.y c.args.ty exclusive
 
 pub returns-in-Xor-clause-fits : goal.returns-in-Xor-clause-fits
 returns-in-Xor-clause-fits c = or_lt c.args.width c.args.tx c.args.ty c.requires.tx_fits c.requires.ty_fits
-
-pub returns-in-Xnor-clause-word : goal.returns-in-Xnor-clause-word
-returns-in-Xnor-clause-word c = taint-xnor c.args.kind c.args.width c.args.x c.args.tx c.args.y c.args.ty c.in-Xnor.is
-
-pub returns-in-Xnor-clause-fits : goal.returns-in-Xnor-clause-fits
-returns-in-Xnor-clause-fits c = or_lt c.args.width c.args.tx c.args.ty c.requires.tx_fits c.requires.ty_fits
