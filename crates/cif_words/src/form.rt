@@ -1,15 +1,14 @@
 // Forms of cells, over all families of kinds.
-ghost use Rattle.std.specs.Prelude.{◌≡◌, IsTrue, MatchOption, ⊤};
+ghost use Rattle.std.specs.Prelude.{◌≡◌, MatchOption, ⊤};
 ghost use Rattle.cif_defs.specs.Cells.{meaning};
 ghost use Rattle.cif_defs.specs.Fitted.{IsFitted, operand_widths};
 ghost use Rattle.cif_term.specs.CellTaints.{taint_words};
 ghost use Rattle.word_numbers.specs.HeldWords.{AreNarrow, words_held};
 ghost use Rattle.word_numbers.specs.NarrowCells.{output_widths};
-ghost use Rattle.word_sums.specs.CellForms.{IsNarrow};
 ghost use Rattle.cif_words.specs.Forms.{StandsFor};
 
 use crate::narrow_ports::has_narrow_ports;
-use cif_kinds::{Cell, Kind, Param};
+use cif_kinds::{Cell, Kind};
 use word_logic::LogicForm;
 use word_numbers::Words;
 use word_sums::{AluForm, Form as NumberForm};
@@ -23,15 +22,6 @@ pub enum WordForm {
     Number(NumberForm),
     /// `$alu`.
     Adder(AluForm),
-}
-
-/// Whether the widths of a cell with operands A and B and the output Y are at most 128.
-fn has_narrow_numbers(cell: &Cell) -> bool
-    ensures { IsTrue result → IsNarrow cell.now }
-{
-    cell.number(Param::AWidth) <= 128
-        && cell.number(Param::BWidth) <= 128
-        && cell.number(Param::YWidth) <= 128
 }
 
 impl WordForm {
@@ -48,7 +38,7 @@ impl WordForm {
         if rule_logic::covers(kind) {
             return Some(WordForm::Logic(LogicForm::of(cell)));
         }
-        if word_sums::covers(kind) && has_narrow_numbers(cell) {
+        if word_sums::covers(kind) {
             return Some(WordForm::Number(NumberForm::of(cell)));
         }
         if matches!(kind, Kind::Alu) {
