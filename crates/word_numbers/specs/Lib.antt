@@ -1,1 +1,2 @@
 pub mod HeldWords
+pub mod NarrowCells

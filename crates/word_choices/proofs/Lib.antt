@@ -1,0 +1,5 @@
+pub mod MovedWords
+pub mod ShiftValues
+pub mod ChoiceValues
+pub mod ShadowLaws
+pub mod ShiftShadows
