@@ -3,3 +3,4 @@ pub mod ShiftValues
 pub mod ChoiceValues
 pub mod ShadowLaws
 pub mod ShiftShadows
+pub mod ChoiceShadows

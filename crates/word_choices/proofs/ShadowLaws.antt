@@ -1,5 +1,5 @@
 -- Words beside their exact taints: parts of them, and choices between them.
-use Rattle.std.specs.Prelude.{ℕ, suc, ◌^◌, ◌<◌, ◌≤◌, ◌≡◌, nat_lt, Bool, true, false, ◌&&◌, ◌||◌, List, [], ◌∷◌, length, map, refl, if◌then◌else◌}
+use Rattle.std.specs.Prelude.{ℕ, suc, ◌^◌, ◌+◌, ◌<◌, ◌≤◌, ◌≡◌, nat_lt, Bool, true, false, ◌&&◌, ◌||◌, List, [], ◌∷◌, length, map, refl, if◌then◌else◌}
 use Rattle.std.proofs.Common.{arith, sym, ap, subst, ◌∙◌}
 use Rattle.cif_defs.specs.Words.{Word, bit, digit, operand, word, word_of, xor}
 use Rattle.cif_defs.specs.Completions.{AllComplete, can_differ}
@@ -78,6 +78,9 @@ stage_shadow t m j vs ts zero one p g h z o c =
     choice_shadow (t.wide (suc j)) t.select (t.order j) (t.steps j false (tree_bit t j)) (t.steps j true (tree_bit t j)) vs ts zero one p g.there (g.within j h)
     ((g.part j false h).ignores (tree_bit t j) (t.order j) before) ((g.part j true h).ignores (tree_bit t j) (t.order j) before) z o c
 
+pub next_shadow : (t : Tree) (n j : ℕ) (vs ts : List Word) (r : Shadowed) → IsShadow n (tree_bit t (suc j)) vs ts r → IsShadow n (tree_bit t (j + 1)) vs ts r
+next_shadow t n j vs ts r g = let e : suc j ≡ j + 1 = omega arith in subst (λ k. IsShadow n (tree_bit t k) vs ts r) e g
+
 -- ---- a part of a word, by places
 
 differs_by : (b : Bool) (f : List Word → Bool) (vs ts : List Word) → can_differ (λ us. b && f us) vs ts ≡ (b && can_differ f vs ts)
@@ -107,3 +110,7 @@ same_lengths (v ∷ vs) (u ∷ us) e h =
 pub exact_by : (n x : ℕ) (f : ℕ → List Word → Bool) (row : List Word → Word) (vs ts : List Word) → word_of n x ≡ word n (differs f vs ts)
     → ((us : List Word) → map length us ≡ map length vs → (i : ℕ) → i < n → bit (row us) i ≡ f i us) → word_of n x ≡ exact_word n row vs ts
 exact_by n x f row vs ts e same = e ∙ word-same n _ _ (λ i h. same_differ (f i) (λ us. bit (row us) i) vs ts (λ us d. sym (same us (same_lengths vs us d.as_many (λ q. (d.each q).as_long)) i h)))
+
+-- rows that give the same
+pub same_exact : (n x : ℕ) (f g : List Word → Word) (vs ts : List Word) → ((us : List Word) → f us ≡ g us) → word_of n x ≡ exact_word n f vs ts → word_of n x ≡ exact_word n g vs ts
+same_exact n x f g vs ts e h = h ∙ word-same n _ _ (λ i l. same_differ (λ us. bit (f us) i) (λ us. bit (g us) i) vs ts (λ us c. ap (λ (w : Word). bit w i) (e us)))

@@ -20,7 +20,7 @@ use Rattle.word_numbers.proofs.Digits.{bit-held_by}
 use Rattle.word_choices.specs.declared.shadowed.Shadowed.{Shadowed}
 use Rattle.word_choices.specs.Shadows.{IsChosen, IsWithin, exact_word, two_taints, two_values}
 use Rattle.word_choices.proofs.MovedWords.{down_reads, kept_reads, narrower, signed_reads, up_reads}
-use Rattle.word_choices.proofs.ShadowLaws.{IsShadow, chosen_as, exact_by, part_shadow, stage_shadow}
+use Rattle.word_choices.proofs.ShadowLaws.{IsShadow, chosen_as, exact_by, next_shadow, part_shadow, same_exact, stage_shadow}
 
 -- ---- operands
 
@@ -58,14 +58,14 @@ left_is n a b m signed p q some few h =
 
 pub left_stage : (n a b j by : ℕ) (signed : Bool) (p q word moved r : Shadowed) → 1 ≤ n → n ≤ 128 → j < b → by ≡ 2 ^ j → IsShadow n (tree_bit (left_tree n b signed) j) (two_values a b p q) (two_taints a b p q) word
     → word_of n moved.value ≡ raised_word by (word_of n word.value) → word_of n moved.taint ≡ raised_word by (word_of n word.taint) → IsWithin n moved → IsChosen word moved (digit q.value j) (digit q.taint j) r
-    → IsShadow n (tree_bit (left_tree n b signed) (suc j)) (two_values a b p q) (two_taints a b p q) r
+    → IsShadow n (tree_bit (left_tree n b signed) (j + 1)) (two_values a b p q) (two_taints a b p q) r
 unfolding place_by order_by
 left_stage n a b j by signed p q word moved r some few h e g ev et inside c =
-    stage_shadow (left_tree n b signed) b j (two_values a b p q) (two_taints a b p q) word moved r (left_is n a b b signed p q some few (omega arith)) h
+    next_shadow (left_tree n b signed) n j (two_values a b p q) (two_taints a b p q) r (stage_shadow (left_tree n b signed) b j (two_values a b p q) (two_taints a b p q) word moved r (left_is n a b b signed p q some few (omega arith)) h
     (kept_part n (tree_bit (left_tree n b signed) j) _ _ word g)
     (part_shadow n n (left_place n (2 ^ j)) (raised_word (2 ^ j)) (tree_bit (left_tree n b signed) j) _ _ word moved (up_reads n (2 ^ j)) g
     (ev ∙ ap (λ k. raised_word k (word_of n word.value)) e) (et ∙ ap (λ k. raised_word k (word_of n word.taint)) e) inside)
-    (select_as b j q word moved r h c)
+    (select_as b j q word moved r h c))
 
 left_gives : (n a b : ℕ) (signed : Bool) (us : List Word) → map length us ≡ a ∷ b ∷ [] → (i : ℕ) → i < n → bit (shl_word n signed (operand us 0) (operand us 1)) i ≡ tree_bit (left_tree n b signed) b i us
 left_gives n a b signed us e i h =
@@ -93,14 +93,14 @@ right_is w a b m signed p q some few h =
 
 pub right_stage : (w a b m j by : ℕ) (signed : Bool) (p q word moved r : Shadowed) → 1 ≤ w → w ≤ 128 → j < m → m ≤ b → by ≡ 2 ^ j → IsShadow w (tree_bit (right_tree w m signed) j) (two_values a b p q) (two_taints a b p q) word
     → word_of w moved.value ≡ lowered_word by false (word_of w word.value) → word_of w moved.taint ≡ lowered_word by false (word_of w word.taint) → IsWithin w moved → IsChosen word moved (digit q.value j) (digit q.taint j) r
-    → IsShadow w (tree_bit (right_tree w m signed) (suc j)) (two_values a b p q) (two_taints a b p q) r
+    → IsShadow w (tree_bit (right_tree w m signed) (j + 1)) (two_values a b p q) (two_taints a b p q) r
 unfolding place_by order_by
 right_stage w a b m j by signed p q word moved r some few h l e g ev et inside c =
-    stage_shadow (right_tree w m signed) m j (two_values a b p q) (two_taints a b p q) word moved r (right_is w a b m signed p q some few l) h
+    next_shadow (right_tree w m signed) w j (two_values a b p q) (two_taints a b p q) r (stage_shadow (right_tree w m signed) m j (two_values a b p q) (two_taints a b p q) word moved r (right_is w a b m signed p q some few l) h
     (kept_part w (tree_bit (right_tree w m signed) j) _ _ word g)
     (part_shadow w w (λ i. i + 2 ^ j) (lowered_word (2 ^ j) false) (tree_bit (right_tree w m signed) j) _ _ word moved (down_reads w (2 ^ j)) g
     (ev ∙ ap (λ k. lowered_word k false (word_of w word.value)) e) (et ∙ ap (λ k. lowered_word k false (word_of w word.taint)) e) inside)
-    (select_as b j q word moved r (omega arith) c)
+    (select_as b j q word moved r (omega arith) c))
 
 right_gives : (n a b w : ℕ) (signed : Bool) (us : List Word) → w ≡ max a n → map length us ≡ a ∷ b ∷ [] → (i : ℕ) → i < n → bit (shr_word n signed (operand us 0) (operand us 1)) i ≡ tree_bit (right_tree w b signed) b i us
 right_gives n a b w signed us wide e i h =
@@ -132,14 +132,14 @@ signed_is w a b p q some few =
 
 pub signed_stage : (w a b j by : ℕ) (p q word moved r : Shadowed) → 1 ≤ w → w ≤ 128 → j < b → by ≡ 2 ^ j → IsShadow w (tree_bit (signed_tree w b) j) (two_values a b p q) (two_taints a b p q) word
     → word_of w moved.value ≡ lowered_word by (top (word_of w word.value)) (word_of w word.value) → word_of w moved.taint ≡ lowered_word by (top (word_of w word.taint)) (word_of w word.taint) → IsWithin w moved
-    → IsChosen word moved (digit q.value j) (digit q.taint j) r → IsShadow w (tree_bit (signed_tree w b) (suc j)) (two_values a b p q) (two_taints a b p q) r
+    → IsChosen word moved (digit q.value j) (digit q.taint j) r → IsShadow w (tree_bit (signed_tree w b) (j + 1)) (two_values a b p q) (two_taints a b p q) r
 unfolding place_by order_by
 signed_stage w a b j by p q word moved r some few h e g ev et inside c =
-    stage_shadow (signed_tree w b) b j (two_values a b p q) (two_taints a b p q) word moved r (signed_is w a b p q some few) h
+    next_shadow (signed_tree w b) w j (two_values a b p q) (two_taints a b p q) r (stage_shadow (signed_tree w b) b j (two_values a b p q) (two_taints a b p q) word moved r (signed_is w a b p q some few) h
     (kept_part w (tree_bit (signed_tree w b) j) _ _ word g)
     (part_shadow w w (λ i. min (i + 2 ^ j) (w - 1)) (λ v. lowered_word (2 ^ j) (top v) v) (tree_bit (signed_tree w b) j) _ _ word moved (λ f. signed_reads w (2 ^ j) f some) g
     (ev ∙ ap (λ k. lowered_word k (top (word_of w word.value)) (word_of w word.value)) e) (et ∙ ap (λ k. lowered_word k (top (word_of w word.taint)) (word_of w word.taint)) e) inside)
-    (select_as b j q word moved r h c)
+    (select_as b j q word moved r h c))
 
 -- past its highest bit a signed word goes on with it
 sign_stays : (w m k : ℕ) (v : Word) → length v ≡ m → 1 ≤ m → m ≤ w → extended_bit true k v ≡ extended_bit true (min k (w - 1)) v
@@ -174,5 +174,11 @@ zeros_stay w k v h = elim (le_or_lt k w) [
   | inr l ↦ past_word w (λ i. extended_bit false i v) k false l ∙ sym (get_or_past v k false (omega arith))
 ]
 
-pub unsigned_is : (n : ℕ) (a b : Word) → shr_word n false a b ≡ sshr_word n false a b
+unsigned_is : (n : ℕ) (a b : Word) → shr_word n false a b ≡ sshr_word n false a b
 unsigned_is n a b = word-same n _ _ (λ i h. zeros_stay (max (length a) n) (i + number b) a (omega arith))
+
+pub signed_as : (n x : ℕ) (s : Bool) (vs ts : List Word) → s ≡ true → word_of n x ≡ exact_word n (λ us. sshr_word n true (operand us 0) (operand us 1)) vs ts → word_of n x ≡ exact_word n (λ us. sshr_word n s (operand us 0) (operand us 1)) vs ts
+signed_as n x s vs ts e h = same_exact n x _ _ vs ts (λ us. ap (λ b. sshr_word n b (operand us 0) (operand us 1)) (sym e)) h
+
+pub unsigned_as : (n x : ℕ) (s : Bool) (vs ts : List Word) → s ≡ false → word_of n x ≡ exact_word n (λ us. shr_word n s (operand us 0) (operand us 1)) vs ts → word_of n x ≡ exact_word n (λ us. sshr_word n s (operand us 0) (operand us 1)) vs ts
+unsigned_as n x s vs ts e h = same_exact n x _ _ vs ts (λ us. ap (λ b. shr_word n b (operand us 0) (operand us 1)) e ∙ unsigned_is n (operand us 0) (operand us 1) ∙ ap (λ b. sshr_word n b (operand us 0) (operand us 1)) (sym e)) h

@@ -5,12 +5,14 @@
 //! parts and of their difference.
 #![tactic(auto)]
 
+mod choice_taints;
 mod choices;
 mod shadowed;
 mod shapes;
 mod shift_taints;
 mod shifts;
 
+pub use choice_taints::{bmux_taint, mux_taint};
 pub use choices::{bmux_value, demux_value, mux_value, pmux_value};
 pub use shadowed::Shadowed;
 pub use shapes::{Blocks, Chain, Shift};

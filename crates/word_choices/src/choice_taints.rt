@@ -1,0 +1,51 @@
+// The taints of choices.
+ghost use Rattle.std.specs.Prelude.{◌≡◌, ◌^◌, ◌<◌, ◌≤◌, ◌*◌, ◌+◌};
+ghost use Rattle.cif_defs.specs.Words.{operand, word_of};
+ghost use Rattle.cif_defs.specs.Meanings.{bmux_word, mux_word};
+ghost use Rattle.word_choices.specs.Shadows.{IsWithin, exact_word, three_taints, three_values, two_taints, two_values};
+
+use crate::shadowed::{Shadowed, chosen_at, cut};
+use crate::shapes::Blocks;
+
+/// The taint of what `$mux` gives.
+pub fn mux_taint(width: u32, a: Shadowed, b: Shadowed, s: Shadowed) -> u128
+    requires a_within { IsWithin width a }
+    requires b_within { IsWithin width b }
+    ensures word { word_of width result
+        ≡ exact_word width (λ us. mux_word width (operand us 0) (operand us 1) (operand us 2))
+            (three_values width width 1 a b s) (three_taints width width 1 a b s) }
+    ensures fits { result < 2 ^ width }
+{
+    chosen_at(a, b, s, 0).taint
+}
+
+/// How many bits the part of a word has that a select bit chooses.
+fn half_bits(blocks: Blocks, place: u32) -> u32
+    requires { place < blocks.selects }
+    ensures value { result ≡ blocks.width * 2 ^ place }
+    ensures some { 1 ≤ result }
+    ensures room { result + result ≤ 128 }
+    ensures few { place < 128 }
+{
+    blocks.width * (1u32 << place)
+}
+
+/// The taint of what `$bmux` gives.
+pub fn bmux_taint(blocks: Blocks, a: Shadowed, s: Shadowed) -> u128
+    requires a_within { IsWithin (blocks.width * 2 ^ blocks.selects) a }
+    ensures word { word_of blocks.width result
+        ≡ exact_word blocks.width (λ us. bmux_word blocks.width (operand us 0) (operand us 1))
+            (two_values (blocks.width * 2 ^ blocks.selects) blocks.selects a s)
+            (two_taints (blocks.width * 2 ^ blocks.selects) blocks.selects a s) }
+    ensures fits { result < 2 ^ blocks.width }
+{
+    let mut word = a;
+    for done in 0..blocks.selects {
+        let place = blocks.selects - 1 - done;
+        let half = half_bits(blocks, place);
+        let zero = cut(half, 0, word);
+        let one = cut(half, half, word);
+        word = chosen_at(zero, one, s, place);
+    }
+    word.taint
+}
