@@ -11,6 +11,7 @@ use Rattle.cif_defs.specs.Words.{Word, bit, digit, number, word, word_of}
 use Rattle.cif_defs.specs.Meanings.{bmux_word, demux_word, mux_word, pmux_bit, pmux_word, slice_word}
 use Rattle.cif_defs.proofs.Numbers.{word-same}
 use Rattle.cif_defs.proofs.WordLaws.{bit-word, le_or_lt, length-word}
+use Rattle.rule_select.proofs.BlockTrees.{twice}
 use Rattle.word_numbers.specs.HeldWords.{raised_word}
 use Rattle.word_numbers.proofs.Digits.{bit-held, bit-held_by, digit_above, word_of-digits}
 use Rattle.word_choices.proofs.MovedWords.{raised_by}
@@ -124,3 +125,6 @@ lowest_one n x some few fits =
 
 pub block_fits : (k n m : ℕ) → 1 ≤ n → k < m → n * m ≤ 128 → k * n < 128
 block_fits k n m some h few = let room : (k + 1) * n ≤ m * n = mul-le-mul_right n (omega arith) in omega arith
+
+pub next_power : (n k : ℕ) → n * 2 ^ (k + 1) ≡ n * 2 ^ k + n * 2 ^ k
+next_power n k = let next : k + 1 ≡ suc k = omega arith in ap (λ j. n * 2 ^ j) next ∙ twice n k

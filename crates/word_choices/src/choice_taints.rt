@@ -19,6 +19,14 @@ pub fn mux_taint(width: u32, a: Shadowed, b: Shadowed, s: Shadowed) -> u128
     chosen_at(a, b, s, 0).taint
 }
 
+/// 2 to the power of a select bit's place.
+fn power(place: u32) -> u32
+    requires { place ≤ 16 }
+    ensures { result ≡ 2 ^ place }
+{
+    1u32 << place
+}
+
 /// How many bits the part of a word has that a select bit chooses.
 fn half_bits(blocks: Blocks, place: u32) -> u32
     requires { place < blocks.selects }
@@ -27,7 +35,7 @@ fn half_bits(blocks: Blocks, place: u32) -> u32
     ensures room { result + result ≤ 128 }
     ensures few { place < 128 }
 {
-    blocks.width * (1u32 << place)
+    blocks.width * power(place)
 }
 
 /// The taint of what `$bmux` gives.

@@ -7,7 +7,7 @@ use Rattle.word_choices.proofs.ChoiceShadows.{bmux_end, bmux_last, bmux_start, h
 use Rattle.word_choices.proofs.choice_taints.bmux_taint.Goals as goal
 
 pub loop-done-init : goal.loop-done-init
-loop-done-init c = bmux_start c.args.blocks.width c.args.blocks.selects c.args.a c.args.s c.requires
+loop-done-init c = bmux_start c.args.blocks.width c.args.blocks.selects c.args.a c.args.s c.requires.a_within
 
 pub loop-done-preserved : goal.loop-done-preserved
 loop-done-preserved c =
