@@ -3,6 +3,7 @@ use Rattle.std.specs.Prelude.{ℕ, suc, ◌+◌, ◌-◌, ◌*◌, ◌/◌, ◌%
 use Rattle.std.proofs.Common.{arith, sym, ap, subst, ◌∙◌, inl, inr}
 use Rattle.std.proofs.lemmas.Bool.Decides.{nat_tests}
 use Rattle.std.proofs.lemmas.List.{get_or_past}
+use Rattle.std.proofs.Math.Pow.{pow_mono}
 use Rattle.cif_defs.specs.Words.{Word, bit, digit, number, operand, word, word_of}
 use Rattle.cif_defs.specs.Completions.{can_differ}
 use Rattle.cif_defs.specs.Meanings.{bmux_word, demux_word, mux_word, pmux_bit, pmux_word, slice_word}
@@ -11,11 +12,12 @@ use Rattle.cif_defs.proofs.WordLaws.{bit-word, le_or_lt, length-word}
 use Rattle.rule_select.specs.declared.moves.Moves.TheVariants.{Blocks, Halves}
 use Rattle.rule_select.specs.Moves.{order_by}
 use Rattle.rule_select.proofs.BlockLaws.{block_all, block_tree, half_all, half_tree}
-use Rattle.rule_select.proofs.BlockTrees.{block_moving, half_is, half_moving, halved}
+use Rattle.rule_select.proofs.BlockTrees.{block_moving, half_is, half_moving, halved, twice}
 use Rattle.rule_select.proofs.ChoiceTaints.{bit_differs, reads_other}
 use Rattle.rule_select.proofs.Leaves.{extended_leaf, leaf_differs, leaf_ignores}
 use Rattle.rule_select.proofs.MoveReads.{left_at, left_place, left_under}
 use Rattle.rule_select.proofs.MoveTrees.{move_tree, moving_tree, place_by}
+use Rattle.rule_select.proofs.PlacedParts.{moved_bit}
 use Rattle.rule_select.proofs.SelectOperands.{operand_by}
 use Rattle.rule_select.proofs.TreeLaws.{IsTree, Tree, chosen_bit, differs, tree_bit}
 use Rattle.word_numbers.specs.HeldWords.{raised_word}
@@ -24,7 +26,7 @@ use Rattle.word_choices.specs.declared.shadowed.Shadowed.{Shadowed}
 use Rattle.word_choices.specs.Shadows.{IsChosen, IsWithin, exact_word, three_taints, three_values, two_taints, two_values}
 use Rattle.word_choices.proofs.ChoiceValues.{block_place, own_bits}
 use Rattle.word_choices.proofs.MovedWords.{raised_by}
-use Rattle.word_choices.proofs.ShadowLaws.{IsShadow, choice_shadow, chosen_as, exact_by, next_shadow, part_shadow, stage_shadow}
+use Rattle.word_choices.proofs.ShadowLaws.{IsShadow, choice_shadow, differs_by, exact_by, next_shadow, part_shadow, stage_shadow}
 use Rattle.word_choices.proofs.ShiftShadows.{kept_part, select_as, two_widths}
 
 -- a whole operand
@@ -118,3 +120,89 @@ pub bmux_end : (n m w j : ℕ) (p q r : Shadowed) → j ≡ m → IsShadow (halv
 bmux_end n m w j p q r last g =
     exact_by n r.taint (tree_bit (bmux_tree n m) m) (λ us. bmux_word n (operand us 0) (operand us 1)) (two_values w m p q) (two_taints w m p q) (bmux_last n m j _ _ r last g).taint
     (λ us e i h. bmux_gives n m w us (e ∙ two_widths w m p.value q.value) i h)
+
+-- ---- $demux
+
+demux_is : (n m : ℕ) (p q : Shadowed) → 1 ≤ n → n * 2 ^ m ≤ 128 → IsTree (block_tree n m) m (two_values n m p q) (two_taints n m p q)
+demux_is n m p q some few =
+    moving_tree (Blocks n) 1 m (λ j. n * 2 ^ j) (extended_leaf 0 false) (two_values n m p q) (two_taints n m p q) (block_moving n m some (omega arith)) (omega arith)
+    (let l : length (word_of m q.value) ≡ m = length-word m (digit q.value) in omega arith) (λ k i. leaf_ignores 0 false 1 k i (λ o. absurd (omega arith)))
+
+-- a word of w bits as the lower, and as the upper half of one of 2 * w bits
+lower_half : (w x : ℕ) (g : ℕ → Bool) → x < 2 ^ w → word_of w x ≡ word w g → word_of (w + w) x ≡ word (w + w) (λ i. nat_lt i w && g i)
+lower_half w x g fits e = word_of-digits (w + w) x _ place where
+  place : (i : ℕ) → i < w + w → digit x i ≡ (nat_lt i w && g i)
+  place i h = elim (le_or_lt i w) [
+    | inl l ↦ (let t : nat_lt i w ≡ true = grind (arith, nat_tests) in digits-word_of w x g e i l ∙ sym (ap (λ b. b && g i) t))
+    | inr l ↦ (let t : nat_lt i w ≡ false = grind (arith, nat_tests) in digit_above w x i fits l ∙ sym (ap (λ b. b && g i) t))
+  ]
+
+upper_half : (w x y : ℕ) (g : ℕ → Bool) → word_of w x ≡ word w g → word_of (w + w) y ≡ raised_word w (word_of (w + w) x) → word_of (w + w) y ≡ word (w + w) (λ i. nat_lt (left_place w w i) w && g (left_place w w i))
+upper_half w x y g e r = r ∙ raised_by (w + w) w (digit x) ∙ word-same (w + w) _ _ place where
+  place : (i : ℕ) → i < w + w → (nat_le w i && digit x (i - w)) ≡ (nat_lt (left_place w w i) w && g (left_place w w i))
+  place i h = elim (le_or_lt i w) [
+    | inl l ↦ (let t : nat_le w i ≡ false = grind (arith, nat_tests) in
+        let u : nat_lt w w ≡ false = grind (arith, nat_tests) in
+        ap (λ b. b && digit x (i - w)) t ∙ sym (ap (λ k. nat_lt k w && g k) (left_under w w i l) ∙ ap (λ b. b && g w) u))
+    | inr l ↦ (let t : nat_le w i ≡ true = grind (arith, nat_tests) in
+        let u : nat_lt (i - w) w ≡ true = grind (arith, nat_tests) in
+        ap (λ b. b && digit x (i - w)) t ∙ digits-word_of w x g e (i - w) (omega arith) ∙ sym (ap (λ k. nat_lt k w && g k) (left_at w w i l) ∙ ap (λ b. b && g (i - w)) u))
+  ]
+
+wider : (w x : ℕ) → x < 2 ^ w → x < 2 ^ (w + w)
+wider w x h = let more : 2 ^ w ≤ 2 ^ (w + w) = pow_mono (omega arith) in omega arith
+
+pub lower_shadow : (w : ℕ) (f : ℕ → List Word → Bool) (vs ts : List Word) (p : Shadowed) → IsShadow w f vs ts p → IsShadow (w + w) (moved_bit w (λ i. i) f) vs ts p
+lower_shadow w f vs ts p g = record {
+  value = lower_half w p.value (λ i. f i vs) g.within.value g.value;
+  taint = lower_half w p.taint (differs f vs ts) g.within.taint g.taint ∙ word-same (w + w) _ _ (λ i h. sym (differs_by (nat_lt i w) (f i) vs ts));
+  within = record { value = wider w p.value g.within.value; taint = wider w p.taint g.within.taint };
+}
+
+pub upper_shadow : (w : ℕ) (f : ℕ → List Word → Bool) (vs ts : List Word) (p r : Shadowed) → IsShadow w f vs ts p → word_of (w + w) r.value ≡ raised_word w (word_of (w + w) p.value) → word_of (w + w) r.taint ≡ raised_word w (word_of (w + w) p.taint)
+    → IsWithin (w + w) r → IsShadow (w + w) (moved_bit w (left_place w w) f) vs ts r
+upper_shadow w f vs ts p r g e d inside = record {
+  value = upper_half w p.value r.value (λ i. f i vs) g.value e;
+  taint = upper_half w p.taint r.taint (differs f vs ts) g.taint d ∙ word-same (w + w) _ _ (λ i h. sym (differs_by (nat_lt (left_place w w i) w) (f (left_place w w i)) vs ts));
+  within = inside;
+}
+
+pub block_stage : (n m j half by : ℕ) (p q word upper r : Shadowed) → 1 ≤ n → n * 2 ^ m ≤ 128 → j < m → half ≡ n * 2 ^ j → by ≡ half → IsShadow (n * 2 ^ j) (tree_bit (block_tree n m) j) (two_values n m p q) (two_taints n m p q) word
+    → word_of (half + half) upper.value ≡ raised_word by (word_of (half + half) word.value) → word_of (half + half) upper.taint ≡ raised_word by (word_of (half + half) word.taint) → IsWithin (half + half) upper
+    → IsChosen word upper (digit q.value j) (digit q.taint j) r → IsShadow (n * 2 ^ (j + 1)) (tree_bit (block_tree n m) (j + 1)) (two_values n m p q) (two_taints n m p q) r
+unfolding place_by order_by
+block_stage n m j half by p q word upper r some few h e same g ev et inside c =
+    let vs : List Word = two_values n m p q in
+    let ts : List Word = two_taints n m p q in
+    let double : n * 2 ^ j + n * 2 ^ j ≡ n * 2 ^ suc j = sym (twice n j) in
+    let next : suc j ≡ j + 1 = omega arith in
+    let by_is : by ≡ n * 2 ^ j = same ∙ e in
+    let high = subst (λ k. word_of (k + k) upper.value ≡ raised_word (n * 2 ^ j) (word_of (k + k) word.value)) e (ev ∙ ap (λ k. raised_word k (word_of (half + half) word.value)) by_is) in
+    let high_taint = subst (λ k. word_of (k + k) upper.taint ≡ raised_word (n * 2 ^ j) (word_of (k + k) word.taint)) e (et ∙ ap (λ k. raised_word k (word_of (half + half) word.taint)) by_is) in
+    subst (λ k. IsShadow (n * 2 ^ k) (tree_bit (block_tree n m) k) vs ts r) next
+    (stage_shadow (block_tree n m) m j vs ts word upper r (demux_is n m p q some few) h
+    (subst (λ k. IsShadow k (moved_bit (n * 2 ^ j) (λ i. i) (tree_bit (block_tree n m) j)) vs ts word) double (lower_shadow (n * 2 ^ j) (tree_bit (block_tree n m) j) vs ts word g))
+    (subst (λ k. IsShadow k (moved_bit (n * 2 ^ j) (left_place (n * 2 ^ j) (n * 2 ^ j)) (tree_bit (block_tree n m) j)) vs ts upper) double
+    (upper_shadow (n * 2 ^ j) (tree_bit (block_tree n m) j) vs ts word upper g high high_taint (subst (λ k. IsWithin (k + k) upper) e inside)))
+    (select_as m j q word upper r h c))
+
+demux_gives : (n m : ℕ) (us : List Word) → 1 ≤ n → map length us ≡ n ∷ m ∷ [] → (i : ℕ) → i < n * 2 ^ m → bit (demux_word n m (operand us 0) (operand us 1)) i ≡ tree_bit (block_tree n m) m i us
+demux_gives n m us some e i h =
+    let first : length (operand us 0) ≡ n = (operand_by us (n ∷ m ∷ []) 0 n e refl).1 in
+    let second : length (operand us 1) ≡ m = (operand_by us (n ∷ m ∷ []) 1 m e refl).1 in
+    bit-word (n * 2 ^ m) (λ k. k / n == number (operand us 1) && bit (operand us 0) (k % n)) i false h
+    ∙ block_place n (number (operand us 1)) i (bit (operand us 0)) some (λ k l. get_or_past (operand us 0) k false (omega arith)) ∙ sym (block_all n m us first second i h)
+
+pub demux_start : (n m : ℕ) (p q : Shadowed) → IsWithin n p → IsShadow (n * 2 ^ 0) (tree_bit (block_tree n m) 0) (two_values n m p q) (two_taints n m p q) p
+demux_start n m p q inside =
+    let one : n ≡ n * 2 ^ 0 = omega arith in
+    subst (λ k. IsShadow k (extended_leaf 0 false) (two_values n m p q) (two_taints n m p q) p) one (plain_shadow 0 n (two_values n m p q) (two_taints n m p q) p (omega arith) refl refl inside)
+
+pub demux_last : (n m j : ℕ) (vs ts : List Word) (r : Shadowed) → j ≡ m → IsShadow (n * 2 ^ j) (tree_bit (block_tree n m) j) vs ts r → IsShadow (n * 2 ^ m) (tree_bit (block_tree n m) m) vs ts r
+demux_last n m j vs ts r last g = subst (λ k. IsShadow (n * 2 ^ k) (tree_bit (block_tree n m) k) vs ts r) last g
+
+pub demux_end : (n m j : ℕ) (p q r : Shadowed) → 1 ≤ n → j ≡ m → IsShadow (n * 2 ^ j) (tree_bit (block_tree n m) j) (two_values n m p q) (two_taints n m p q) r
+    → word_of (n * 2 ^ m) r.taint ≡ exact_word (n * 2 ^ m) (λ us. demux_word n m (operand us 0) (operand us 1)) (two_values n m p q) (two_taints n m p q)
+demux_end n m j p q r some last g =
+    exact_by (n * 2 ^ m) r.taint (tree_bit (block_tree n m) m) (λ us. demux_word n m (operand us 0) (operand us 1)) (two_values n m p q) (two_taints n m p q) (demux_last n m j _ _ r last g).taint
+    (λ us e i h. demux_gives n m us some (e ∙ two_widths n m p.value q.value) i h)

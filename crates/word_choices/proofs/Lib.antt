@@ -4,3 +4,5 @@ pub mod ChoiceValues
 pub mod ShadowLaws
 pub mod ShiftShadows
 pub mod ChoiceShadows
+pub mod ChainShadows
+pub mod OffsetShadows

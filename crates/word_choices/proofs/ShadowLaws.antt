@@ -83,7 +83,7 @@ next_shadow t n j vs ts r g = let e : suc j ≡ j + 1 = omega arith in subst (λ
 
 -- ---- a part of a word, by places
 
-differs_by : (b : Bool) (f : List Word → Bool) (vs ts : List Word) → can_differ (λ us. b && f us) vs ts ≡ (b && can_differ f vs ts)
+pub differs_by : (b : Bool) (f : List Word → Bool) (vs ts : List Word) → can_differ (λ us. b && f us) vs ts ≡ (b && can_differ f vs ts)
 differs_by true f vs ts = refl
 differs_by false f vs ts = never_differs (λ us. false) vs ts false (λ us c. refl)
 

@@ -12,9 +12,9 @@ mod shapes;
 mod shift_taints;
 mod shifts;
 
-pub use choice_taints::{bmux_taint, mux_taint};
+pub use choice_taints::{bmux_taint, demux_taint, mux_taint, pmux_taint};
 pub use choices::{bmux_value, demux_value, mux_value, pmux_value};
 pub use shadowed::Shadowed;
 pub use shapes::{Blocks, Chain, Shift};
-pub use shift_taints::{left_taint, right_taint, signed_taint};
-pub use shifts::{left_value, offset_value, right_value, signed_value};
+pub use shift_taints::{indexed_taint, left_taint, offset_taint, right_taint, signed_taint};
+pub use shifts::{indexed_value, left_value, offset_value, right_value, signed_value};

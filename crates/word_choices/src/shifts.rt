@@ -1,7 +1,7 @@
 // The values of shifts.
-ghost use Rattle.std.specs.Prelude.{◌≡◌, ◌^◌, ◌<◌, ◌≤◌, ◌&&◌, ◌+◌, true, max};
+ghost use Rattle.std.specs.Prelude.{◌≡◌, ◌^◌, ◌<◌, ◌≤◌, ◌&&◌, ◌+◌, false, true, max};
 ghost use Rattle.cif_defs.specs.Words.{top, word_of};
-ghost use Rattle.cif_defs.specs.Meanings.{shift_word, shl_word, shr_word, sshr_word};
+ghost use Rattle.cif_defs.specs.Meanings.{shift_word, shiftx_word, shl_word, shr_word, sshr_word};
 
 use crate::shapes::Shift;
 use word_numbers::{Words, extend, lowered, lowest, mask, raised, top};
@@ -100,7 +100,7 @@ fn left_by(shift: Shift, values: Words) -> u128
     )
 }
 
-/// What `$shift` gives, and of an unsigned A what `$shiftx` gives: A moved to the right by B with zeros, or to the left
+/// What `$shift` gives: A moved to the right by B with zeros, or to the left
 /// where B is negative.
 pub fn offset_value(shift: Shift, values: Words) -> u128
     requires a_fits { values.a < 2 ^ shift.a }
@@ -114,4 +114,16 @@ pub fn offset_value(shift: Shift, values: Words) -> u128
     } else {
         right_value(shift, values)
     }
+}
+
+/// What `$shiftx` gives, whose A has no sign: the bits of A from place B upward, and zeros outside A.
+pub fn indexed_value(shift: Shift, values: Words) -> u128
+    requires a_fits { values.a < 2 ^ shift.a }
+    requires b_fits { values.b < 2 ^ shift.b }
+    requires unsigned { shift.a_signed ≡ false }
+    ensures word { word_of shift.y result
+        ≡ shiftx_word shift.y shift.b_signed (word_of shift.a values.a) (word_of shift.b values.b) }
+    ensures fits { result < 2 ^ shift.y }
+{
+    offset_value(shift, values)
 }
