@@ -7,6 +7,7 @@
 
 mod choice_taints;
 mod choices;
+mod form;
 mod shadowed;
 mod shapes;
 mod shift_taints;
@@ -14,6 +15,7 @@ mod shifts;
 
 pub use choice_taints::{bmux_taint, demux_taint, mux_taint, pmux_taint};
 pub use choices::{bmux_value, demux_value, mux_value, pmux_value};
+pub use form::{SelectForm, taint, value};
 pub use shadowed::Shadowed;
 pub use shapes::{Blocks, Chain, Shift};
 pub use shift_taints::{indexed_taint, left_taint, offset_taint, right_taint, signed_taint};
