@@ -6,3 +6,4 @@ pub mod ShiftShadows
 pub mod ChoiceShadows
 pub mod ChainShadows
 pub mod OffsetShadows
+pub mod FormLaws
