@@ -2,6 +2,11 @@
 use Rattle.std.specs.Prelude.{ℕ, ◌*◌, ◌^◌, ◌≤◌, ◌≡◌, Bool, false, List, [], ◌∷◌}
 use Rattle.cif_defs.specs.Words.{Word, operand}
 use Rattle.cif_defs.specs.Meanings.{bmux_word, demux_word, mux_word, pmux_word, shift_word, shiftx_word, shl_word, shr_word, sshr_word}
+use Rattle.cif_defs.specs.Cells.{Cell, meaning}
+use Rattle.cif_defs.specs.Fitted.{operand_widths}
+use Rattle.cif_term.specs.CellTaints.{taint_words}
+use Rattle.word_numbers.specs.NarrowCells.{output_widths}
+use Rattle.word_choices.specs.Shadows.{exact_word}
 use Rattle.word_choices.specs.declared.form.SelectForm.{SelectForm}
 use Rattle.word_choices.specs.declared.form.SelectForm.TheVariants.{Mux, Pmux, Bmux, Demux, Left, Right, Signed, Offset, Indexed}
 
@@ -56,3 +61,11 @@ IsSound (Right s) = Unit {0}
 IsSound (Signed s) = Unit {0}
 IsSound (Offset s) = Unit {0}
 IsSound (Indexed s) = s.a_signed ≡ false
+
+-- a form says all that a cell's output and its taint depend on beside the words of its operands
+pub record StandsFor (f : SelectForm) (c : Cell) : Type 0 where
+  pub sound : IsSound f
+  pub operands : operand_widths c ≡ form_operands f
+  pub outputs : output_widths c ≡ form_output f ∷ []
+  pub words : (us : List Word) → meaning c us ≡ form_word f us ∷ []
+  pub taints : (vs ts : List Word) → taint_words c vs ts ≡ exact_word (form_output f) (form_word f) vs ts ∷ []

@@ -1,9 +1,13 @@
 // Forms of cells that select and shift.
-ghost use Rattle.std.specs.Prelude.{◌≡◌, ◌^◌, ◌<◌};
+ghost use Rattle.std.specs.Prelude.{◌≡◌, ◌^◌, ◌<◌, [], ◌∷◌};
+ghost use Rattle.cif_defs.specs.Cells.{Cell, meaning};
+ghost use Rattle.cif_defs.specs.Fitted.{operand_widths};
+ghost use Rattle.cif_term.specs.CellTaints.{taint_words};
+ghost use Rattle.word_numbers.specs.NarrowCells.{output_widths};
 ghost use Rattle.cif_defs.specs.Words.{word_of};
 ghost use Rattle.word_numbers.specs.HeldWords.{AreNarrow, words_held};
 ghost use Rattle.word_choices.specs.Shadows.{exact_word};
-ghost use Rattle.word_choices.specs.SelectForms.{IsSound, form_operands, form_output, form_word};
+ghost use Rattle.word_choices.specs.SelectForms.{IsSound, StandsFor, form_operands, form_output, form_word};
 
 use crate::choice_taints::{bmux_taint, demux_taint, mux_taint, pmux_taint};
 use crate::choices::{bmux_value, demux_value, mux_value, pmux_value};
@@ -36,11 +40,8 @@ pub enum SelectForm {
     Indexed(Shift),
 }
 
-/// The word of the output of a cell of this form, from the words of its operands, as the Yosys cell library has its kind
-/// without x.
-///
-/// Each number is below 2 to the width of its port, and 0 where there is no port; so is the answer.
-pub fn value(form: SelectForm, values: Words) -> u128
+/// The word that a form gives.
+fn output_value(form: SelectForm, values: Words) -> u128
     requires sound { IsSound form }
     requires values { AreNarrow (form_operands form) values }
     ensures word { word_of (form_output form) result ≡ form_word form (words_held (form_operands form) values) }
@@ -59,11 +60,8 @@ pub fn value(form: SelectForm, values: Words) -> u128
     }
 }
 
-/// The exact taint of the word of the output of a cell of this form, from the words of its operands and their taints: a
-/// bit is tainted where two fillings of the tainted operand bits show it differently, as GLIFT has it.
-///
-/// Each number is below 2 to the width of its port, and 0 where there is no port; so is the answer.
-pub fn taint(form: SelectForm, values: Words, taints: Words) -> u128
+/// The exact taint of the word that a form gives.
+fn output_taint(form: SelectForm, values: Words, taints: Words) -> u128
     requires sound { IsSound form }
     requires values { AreNarrow (form_operands form) values }
     requires taints { AreNarrow (form_operands form) taints }
@@ -86,4 +84,34 @@ pub fn taint(form: SelectForm, values: Words, taints: Words) -> u128
         SelectForm::Offset(shift) => offset_taint(shift, a, b),
         SelectForm::Indexed(shift) => indexed_taint(shift, a, b),
     }
+}
+
+/// The word of the output of a cell of this form, from the words of its operands, as the Yosys cell library has its kind
+/// without x.
+///
+/// Each number is below 2 to the width of its port, and 0 where there is no port; so is each in the answer.
+pub fn value(form: SelectForm, values: Words) -> Words
+    requires sound { IsSound form }
+    requires values { AreNarrow (form_operands form) values }
+    ensures words { (c : Cell) → StandsFor form c
+        → words_held (output_widths c) result ≡ meaning c (words_held (operand_widths c) values) }
+    ensures narrow { AreNarrow (form_output form ∷ []) result }
+{
+    Words::one(output_value(form, values))
+}
+
+/// The exact taint of the word of the output of a cell of this form, from the words of its operands and their taints: a
+/// bit is tainted where two fillings of the tainted operand bits show it differently, as GLIFT has it.
+///
+/// Each number is below 2 to the width of its port, and 0 where there is no port; so is each in the answer.
+pub fn taint(form: SelectForm, values: Words, taints: Words) -> Words
+    requires sound { IsSound form }
+    requires values { AreNarrow (form_operands form) values }
+    requires taints { AreNarrow (form_operands form) taints }
+    ensures words { (c : Cell) → StandsFor form c
+        → words_held (output_widths c) result
+        ≡ taint_words c (words_held (operand_widths c) values) (words_held (operand_widths c) taints) }
+    ensures narrow { AreNarrow (form_output form ∷ []) result }
+{
+    Words::one(output_taint(form, values, taints))
 }
