@@ -1,16 +1,15 @@
 -- The stages of $pmux, on words beside their taints.
-use Rattle.std.specs.Prelude.{ℕ, suc, ◌+◌, ◌-◌, ◌*◌, ◌<◌, ◌≤◌, ◌≡◌, nat_lt, Bool, true, false, ◌&&◌, List, [], ◌∷◌, length, map, position, refl, if◌then◌else◌, ◌^◌}
+use Rattle.std.specs.Prelude.{ℕ, suc, ◌+◌, ◌-◌, ◌*◌, ◌<◌, ◌≤◌, ◌≡◌, Bool, true, false, List, [], ◌∷◌, length, position, refl}
 use Rattle.std.proofs.Common.{arith, sym, ap, subst, ◌∙◌}
 use Rattle.std.proofs.Math.Nat.{mul-le-mul_right}
 use Rattle.cif_defs.specs.Words.{Word, bit, digit, operand, word, word_of}
 use Rattle.cif_defs.specs.Meanings.{pmux_bit, pmux_word, slice_word}
 use Rattle.cif_defs.proofs.Numbers.{word-same}
 use Rattle.cif_defs.proofs.WordLaws.{bit-word, length-word}
-use Rattle.rule_select.specs.declared.moves.Moves.TheVariants.{Chain}
 use Rattle.rule_select.specs.Moves.{order_by, parts_by}
 use Rattle.rule_select.proofs.ChainBits.{chain_all, chain_tree}
 use Rattle.rule_select.proofs.ChoiceTaints.{bit_differs, reads_other}
-use Rattle.rule_select.proofs.Leaves.{extended_leaf, leaf_ignores}
+use Rattle.rule_select.proofs.Leaves.{leaf_ignores}
 use Rattle.rule_select.proofs.SelectOperands.{operand_by}
 use Rattle.rule_select.proofs.TreeLaws.{IsPart, IsTree, differs, tree_bit}
 use Rattle.rule_select.proofs.WindowLaws.{picked-from}

@@ -1,12 +1,11 @@
 -- The stages of choices, on words beside their taints.
-use Rattle.std.specs.Prelude.{ℕ, suc, ◌+◌, ◌-◌, ◌*◌, ◌/◌, ◌%◌, ◌^◌, ◌<◌, ◌≤◌, ◌≡◌, ◌≢◌, ◌==◌, nat_le, nat_lt, Bool, true, false, ◌&&◌, List, [], ◌∷◌, length, map, position, refl, if◌then◌else◌}
+use Rattle.std.specs.Prelude.{ℕ, suc, ◌+◌, ◌-◌, ◌*◌, ◌/◌, ◌%◌, ◌^◌, ◌<◌, ◌≤◌, ◌≡◌, ◌==◌, nat_le, nat_lt, Bool, true, false, ◌&&◌, List, [], ◌∷◌, length, map, refl, if◌then◌else◌}
 use Rattle.std.proofs.Common.{arith, sym, ap, subst, ◌∙◌, inl, inr}
 use Rattle.std.proofs.lemmas.Bool.Decides.{nat_tests}
 use Rattle.std.proofs.lemmas.List.{get_or_past}
 use Rattle.std.proofs.Math.Pow.{pow_mono}
 use Rattle.cif_defs.specs.Words.{Word, bit, digit, number, operand, word, word_of}
-use Rattle.cif_defs.specs.Completions.{can_differ}
-use Rattle.cif_defs.specs.Meanings.{bmux_word, demux_word, mux_word, pmux_bit, pmux_word, slice_word}
+use Rattle.cif_defs.specs.Meanings.{bmux_word, demux_word, mux_word, slice_word}
 use Rattle.cif_defs.proofs.Numbers.{word-same}
 use Rattle.cif_defs.proofs.WordLaws.{bit-word, le_or_lt, length-word}
 use Rattle.rule_select.specs.declared.moves.Moves.TheVariants.{Blocks, Halves}
@@ -14,20 +13,20 @@ use Rattle.rule_select.specs.Moves.{order_by}
 use Rattle.rule_select.proofs.BlockLaws.{block_all, block_tree, half_all, half_tree}
 use Rattle.rule_select.proofs.BlockTrees.{block_moving, half_is, half_moving, halved, twice}
 use Rattle.rule_select.proofs.ChoiceTaints.{bit_differs, reads_other}
-use Rattle.rule_select.proofs.Leaves.{extended_leaf, leaf_differs, leaf_ignores}
+use Rattle.rule_select.proofs.Leaves.{extended_leaf, leaf_ignores}
 use Rattle.rule_select.proofs.MoveReads.{left_at, left_place, left_under}
-use Rattle.rule_select.proofs.MoveTrees.{move_tree, moving_tree, place_by}
+use Rattle.rule_select.proofs.MoveTrees.{moving_tree, place_by}
 use Rattle.rule_select.proofs.PlacedParts.{moved_bit}
 use Rattle.rule_select.proofs.SelectOperands.{operand_by}
 use Rattle.rule_select.proofs.TreeLaws.{IsTree, Tree, chosen_bit, differs, tree_bit}
 use Rattle.word_numbers.specs.HeldWords.{raised_word}
-use Rattle.word_numbers.proofs.Digits.{bit-held_by, digit_above, digits-word_of, word_of-digits}
+use Rattle.word_numbers.proofs.Digits.{digit_above, digits-word_of, word_of-digits}
 use Rattle.word_choices.specs.declared.shadowed.Shadowed.{Shadowed}
 use Rattle.word_choices.specs.Shadows.{IsChosen, IsWithin, exact_word, three_taints, three_values, two_taints, two_values}
 use Rattle.word_choices.proofs.ChoiceValues.{block_place, own_bits}
 use Rattle.word_choices.proofs.MovedWords.{raised_by}
-use Rattle.word_choices.proofs.ShadowLaws.{IsShadow, choice_shadow, differs_by, exact_by, next_shadow, part_shadow, stage_shadow}
-use Rattle.word_choices.proofs.ShiftShadows.{kept_part, select_as, two_widths}
+use Rattle.word_choices.proofs.ShadowLaws.{IsShadow, choice_shadow, differs_by, exact_by, part_shadow, stage_shadow}
+use Rattle.word_choices.proofs.ShiftShadows.{select_as, two_widths}
 
 -- a whole operand
 pub plain_shadow : (p n : ℕ) (vs ts : List Word) (x : Shadowed) → p < length vs → operand vs p ≡ word_of n x.value → operand ts p ≡ word_of n x.taint → IsWithin n x → IsShadow n (λ i us. bit (operand us p) i) vs ts x
@@ -62,7 +61,6 @@ mux_end n p q s r a b c =
 
 abbrev pub bmux_tree : ℕ → ℕ → Tree
 bmux_tree n m = half_tree n m 1 (extended_leaf 0 false)
-
 
 half_is_tree : (n m w : ℕ) (p q : Shadowed) → 1 ≤ n → n * 2 ^ m ≤ 128 → IsTree (bmux_tree n m) m (two_values w m p q) (two_taints w m p q)
 half_is_tree n m w p q some few =

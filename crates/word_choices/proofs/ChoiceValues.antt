@@ -10,7 +10,7 @@ use Rattle.std.proofs.Math.Nat.{mul-le-mul_right, div-eq_of_lt-le, mod-add-div, 
 use Rattle.cif_defs.specs.Words.{Word, bit, digit, number, word, word_of}
 use Rattle.cif_defs.specs.Meanings.{bmux_word, demux_word, mux_word, pmux_bit, pmux_word, slice_word}
 use Rattle.cif_defs.proofs.Numbers.{word-same}
-use Rattle.cif_defs.proofs.WordLaws.{bit-word, le_or_lt, length-word}
+use Rattle.cif_defs.proofs.WordLaws.{le_or_lt}
 use Rattle.rule_select.proofs.BlockTrees.{twice}
 use Rattle.word_numbers.specs.HeldWords.{raised_word}
 use Rattle.word_numbers.proofs.Digits.{bit-held, bit-held_by, digit_above, word_of-digits}

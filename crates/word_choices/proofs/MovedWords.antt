@@ -1,8 +1,8 @@
 -- Moved, cut and extended words, by the places that they read.
-use Rattle.std.specs.Prelude.{ℕ, ◌+◌, ◌-◌, ◌<◌, ◌≤◌, ◌≡◌, nat_le, nat_lt, min, Bool, true, false, ◌&&◌, get_or, length, refl}
+use Rattle.std.specs.Prelude.{ℕ, ◌+◌, ◌-◌, ◌<◌, ◌≤◌, ◌≡◌, nat_le, nat_lt, min, Bool, true, false, ◌&&◌, get_or}
 use Rattle.std.proofs.Common.{arith, sym, ap, ◌∙◌, inl, inr}
 use Rattle.std.proofs.lemmas.Bool.Decides.{nat_tests}
-use Rattle.cif_defs.specs.Words.{Word, bit, top, word, word_of}
+use Rattle.cif_defs.specs.Words.{bit, top, word, word_of}
 use Rattle.cif_defs.proofs.Numbers.{word-same}
 use Rattle.cif_defs.proofs.WordLaws.{bit-word, le_or_lt, length-word, past_word}
 use Rattle.rule_select.proofs.MoveReads.{left_at, left_place, left_under}

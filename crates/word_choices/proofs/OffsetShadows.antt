@@ -1,5 +1,5 @@
 -- The stages of shifts in both directions, on words beside their taints.
-use Rattle.std.specs.Prelude.{ℕ, suc, ◌+◌, ◌-◌, ◌^◌, ◌<◌, ◌≤◌, ◌≡◌, nat_lt, max, Bool, true, false, ◌&&◌, List, [], ◌∷◌, length, map, pos, ◌+ℤ◌, refl}
+use Rattle.std.specs.Prelude.{ℕ, suc, ◌+◌, ◌^◌, ◌<◌, ◌≤◌, ◌≡◌, max, Bool, true, false, ◌&&◌, List, [], ◌∷◌, length, map, pos, ◌+ℤ◌, refl}
 use Rattle.std.proofs.Common.{arith, sym, ap, subst, ◌∙◌}
 use Rattle.cif_defs.specs.Words.{Word, bit, bit_at, digit, int_number, operand, top, word, word_of}
 use Rattle.cif_defs.specs.Meanings.{extended_to, shift_word, shiftx_word, shr_word, slice_word}
@@ -22,7 +22,7 @@ use Rattle.word_choices.specs.declared.shadowed.Shadowed.{Shadowed}
 use Rattle.word_choices.specs.Shadows.{IsChosen, IsWithin, exact_word, two_taints, two_values}
 use Rattle.word_choices.proofs.MovedWords.{up_reads}
 use Rattle.word_choices.proofs.ShadowLaws.{IsShadow, choice_shadow, exact_by, next_shadow, part_shadow, same_exact, stage_shadow}
-use Rattle.word_choices.proofs.ShiftShadows.{kept_part, right_is, select_as, start_shadow, two_widths}
+use Rattle.word_choices.proofs.ShiftShadows.{kept_part, right_is, select_as, two_widths}
 use Rattle.word_choices.proofs.ShiftValues.{right_offset}
 
 -- ---- to the left for select bits at 0

@@ -1,8 +1,8 @@
 -- Words beside their exact taints: parts of them, and choices between them.
-use Rattle.std.specs.Prelude.{ℕ, suc, ◌^◌, ◌+◌, ◌<◌, ◌≤◌, ◌≡◌, nat_lt, Bool, true, false, ◌&&◌, ◌||◌, List, [], ◌∷◌, length, map, refl, if◌then◌else◌}
+use Rattle.std.specs.Prelude.{ℕ, suc, ◌^◌, ◌+◌, ◌<◌, ◌≡◌, nat_lt, Bool, true, false, ◌&&◌, ◌||◌, List, [], ◌∷◌, length, map, refl, if◌then◌else◌}
 use Rattle.std.proofs.Common.{arith, sym, ap, subst, ◌∙◌}
 use Rattle.cif_defs.specs.Words.{Word, bit, digit, operand, word, word_of, xor}
-use Rattle.cif_defs.specs.Completions.{AllComplete, can_differ}
+use Rattle.cif_defs.specs.Completions.{can_differ}
 use Rattle.cif_defs.proofs.Numbers.{word-same}
 use Rattle.rule_select.specs.Choices.{choice_taint}
 use Rattle.rule_select.proofs.ChoiceTaints.{Ignores}

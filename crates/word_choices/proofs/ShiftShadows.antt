@@ -1,5 +1,5 @@
 -- The stages of shifts, on words beside their taints.
-use Rattle.std.specs.Prelude.{ℕ, suc, ◌+◌, ◌-◌, ◌^◌, ◌<◌, ◌≤◌, ◌≡◌, nat_le, nat_lt, min, max, Bool, true, false, ◌&&◌, List, [], ◌∷◌, length, map, refl, if◌then◌else◌}
+use Rattle.std.specs.Prelude.{ℕ, ◌+◌, ◌-◌, ◌^◌, ◌<◌, ◌≤◌, ◌≡◌, nat_le, nat_lt, min, max, Bool, true, false, ◌&&◌, List, [], ◌∷◌, length, map, refl}
 use Rattle.std.proofs.Common.{arith, sym, ap, ◌∙◌, inl, inr}
 use Rattle.std.proofs.lemmas.List.{get_or_default, get_or_past, take_all}
 use Rattle.cif_defs.specs.Words.{Word, bit, digit, extend, extended_bit, number, operand, top, word, word_of}
@@ -116,7 +116,7 @@ right_gives n a b w signed us wide e i h =
 pub right_end : (n a b w x j : ℕ) (signed : Bool) (p q r : Shadowed) → w ≡ max a n → j ≡ b → IsShadow w (tree_bit (right_tree w b signed) j) (two_values a b p q) (two_taints a b p q) r → word_of n x ≡ word_of n r.taint
     → word_of n x ≡ exact_word n (λ us. shr_word n signed (operand us 0) (operand us 1)) (two_values a b p q) (two_taints a b p q)
 right_end n a b w x j signed p q r wide last g e =
-    exact_by n x (tree_bit (right_tree w b signed) b) (λ us. shr_word n signed (operand us 0) (operand us 1)) (two_values a b p q) (two_taints a b p q) 
+    exact_by n x (tree_bit (right_tree w b signed) b) (λ us. shr_word n signed (operand us 0) (operand us 1)) (two_values a b p q) (two_taints a b p q)
     (e ∙ narrower w n r.taint _ (omega arith) g.taint ∙ ap (λ k. word n (differs (tree_bit (right_tree w b signed) k) (two_values a b p q) (two_taints a b p q))) last)
     (λ us d i h. right_gives n a b w signed us wide (d ∙ two_widths a b p.value q.value) i h)
 

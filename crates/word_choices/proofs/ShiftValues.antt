@@ -1,10 +1,10 @@
 -- The values of shifts, from those of the operations that make them.
-use Rattle.std.specs.Prelude.{ℕ, ◌+◌, ◌-◌, ◌^◌, ◌<◌, ◌≤◌, ◌≡◌, nat_le, max, Bool, true, false, ◌&&◌, get_or, length, ℤ, pos, negsuc, ◌+ℤ◌, ◌-ℤ◌, refl, if◌then◌else◌}
+use Rattle.std.specs.Prelude.{ℕ, ◌+◌, ◌-◌, ◌^◌, ◌<◌, ◌≤◌, ◌≡◌, nat_le, max, Bool, true, false, ◌&&◌, get_or, length, pos, negsuc, ◌+ℤ◌, ◌-ℤ◌, if◌then◌else◌}
 use Rattle.std.proofs.Common.{arith, sym, ap, ◌∙◌, inl, inr}
 use Rattle.std.proofs.lemmas.Bool.Decides.{nat_tests}
 use Rattle.std.proofs.lemmas.Int.{ints}
 use Rattle.std.proofs.lemmas.List.{get_or_past}
-use Rattle.cif_defs.specs.Words.{Word, bit, bit_at, extend, extended_bit, int_number, number, top, word, word_of}
+use Rattle.cif_defs.specs.Words.{Word, bit, bit_at, extend, extended_bit, number, top, word, word_of}
 use Rattle.cif_defs.specs.Meanings.{extended_to, shift_word, shl_word, shr_word, sshr_word}
 use Rattle.cif_defs.proofs.Numbers.{word-same}
 use Rattle.cif_defs.proofs.WordLaws.{bit-word, le_or_lt, past_word}

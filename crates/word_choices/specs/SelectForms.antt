@@ -1,5 +1,5 @@
 -- Forms of cells that select and shift: what they say of a cell.
-use Rattle.std.specs.Prelude.{ℕ, ◌*◌, ◌^◌, ◌≤◌, ◌≡◌, Bool, false, List, [], ◌∷◌}
+use Rattle.std.specs.Prelude.{ℕ, ◌*◌, ◌^◌, ◌≤◌, ◌≡◌, false, List, [], ◌∷◌}
 use Rattle.cif_defs.specs.Words.{Word, operand}
 use Rattle.cif_defs.specs.Meanings.{bmux_word, demux_word, mux_word, pmux_word, shift_word, shiftx_word, shl_word, shr_word, sshr_word}
 use Rattle.cif_defs.specs.Cells.{Cell, meaning}

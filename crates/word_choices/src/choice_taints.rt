@@ -13,7 +13,7 @@ pub fn mux_taint(width: u32, a: Shadowed, b: Shadowed, s: Shadowed) -> u128
     requires b_within { IsWithin width b }
     ensures word { word_of width result
         ≡ exact_word width (λ us. mux_word width (operand us 0) (operand us 1) (operand us 2))
-            (three_values width width 1 a b s) (three_taints width width 1 a b s) }
+        (three_values width width 1 a b s) (three_taints width width 1 a b s) }
     ensures fits { result < 2 ^ width }
 {
     chosen_at(a, b, s, 0).taint
@@ -39,8 +39,8 @@ pub fn pmux_taint(chain: Chain, a: Shadowed, b: Shadowed, s: Shadowed) -> u128
     requires b_within { IsWithin (chain.width * chain.selects) b }
     ensures word { word_of chain.width result
         ≡ exact_word chain.width (λ us. pmux_word chain.width (operand us 0) (operand us 1) (operand us 2))
-            (three_values chain.width (chain.width * chain.selects) chain.selects a b s)
-            (three_taints chain.width (chain.width * chain.selects) chain.selects a b s) }
+        (three_values chain.width (chain.width * chain.selects) chain.selects a b s)
+        (three_taints chain.width (chain.width * chain.selects) chain.selects a b s) }
     ensures fits { result < 2 ^ chain.width }
 {
     let mut word = a;
@@ -76,8 +76,8 @@ pub fn bmux_taint(blocks: Blocks, a: Shadowed, s: Shadowed) -> u128
     requires a_within { IsWithin (blocks.width * 2 ^ blocks.selects) a }
     ensures word { word_of blocks.width result
         ≡ exact_word blocks.width (λ us. bmux_word blocks.width (operand us 0) (operand us 1))
-            (two_values (blocks.width * 2 ^ blocks.selects) blocks.selects a s)
-            (two_taints (blocks.width * 2 ^ blocks.selects) blocks.selects a s) }
+        (two_values (blocks.width * 2 ^ blocks.selects) blocks.selects a s)
+        (two_taints (blocks.width * 2 ^ blocks.selects) blocks.selects a s) }
     ensures fits { result < 2 ^ blocks.width }
 {
     let mut word = a;
@@ -96,7 +96,7 @@ pub fn demux_taint(blocks: Blocks, a: Shadowed, s: Shadowed) -> u128
     requires a_within { IsWithin blocks.width a }
     ensures word { word_of (blocks.width * 2 ^ blocks.selects) result
         ≡ exact_word (blocks.width * 2 ^ blocks.selects) (λ us. demux_word blocks.width blocks.selects (operand us 0) (operand us 1))
-            (two_values blocks.width blocks.selects a s) (two_taints blocks.width blocks.selects a s) }
+        (two_values blocks.width blocks.selects a s) (two_taints blocks.width blocks.selects a s) }
     ensures fits { result < 2 ^ (blocks.width * 2 ^ blocks.selects) }
 {
     let mut word = a;

@@ -47,11 +47,7 @@ pub fn demux_value(blocks: Blocks, values: Words) -> u128
         ≡ demux_word blocks.width blocks.selects (word_of blocks.width values.a) (word_of blocks.selects values.b) }
     ensures fits { result < 2 ^ (blocks.width * 2 ^ blocks.selects) }
 {
-    raised(
-        all_bits(blocks),
-        values.b * blocks.width as u128,
-        values.a,
-    )
+    raised(all_bits(blocks), values.b * blocks.width as u128, values.a)
 }
 
 /// The block of B for the lowest bit of S that is 1.

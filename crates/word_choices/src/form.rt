@@ -67,12 +67,21 @@ fn output_taint(form: SelectForm, values: Words, taints: Words) -> u128
     requires taints { AreNarrow (form_operands form) taints }
     ensures word { word_of (form_output form) result
         ≡ exact_word (form_output form) (form_word form) (words_held (form_operands form) values)
-            (words_held (form_operands form) taints) }
+        (words_held (form_operands form) taints) }
     ensures fits { result < 2 ^ form_output form }
 {
-    let a = Shadowed { value: values.a, taint: taints.a };
-    let b = Shadowed { value: values.b, taint: taints.b };
-    let c = Shadowed { value: values.c, taint: taints.c };
+    let a = Shadowed {
+        value: values.a,
+        taint: taints.a,
+    };
+    let b = Shadowed {
+        value: values.b,
+        taint: taints.b,
+    };
+    let c = Shadowed {
+        value: values.c,
+        taint: taints.c,
+    };
     match form {
         SelectForm::Mux(width) => mux_taint(width, a, b, c),
         SelectForm::Pmux(chain) => pmux_taint(chain, a, b, c),

@@ -49,7 +49,12 @@ pub fn chosen_at(zero: Shadowed, one: Shadowed, selects: Shadowed, place: u32) -
     requires { place < 128 }
     ensures { IsChosen zero one (digit selects.value place) (digit selects.taint place) result }
 {
-    chosen(zero, one, bit(selects.value, place), bit(selects.taint, place))
+    chosen(
+        zero,
+        one,
+        bit(selects.value, place),
+        bit(selects.taint, place),
+    )
 }
 
 /// The word and its taint cut or extended: with their highest bits where the word is signed, else with zeros.

@@ -14,7 +14,7 @@ pub fn left_taint(shift: Shift, a: Shadowed, b: Shadowed) -> u128
     requires a_within { IsWithin shift.a a }
     ensures word { word_of shift.y result
         ≡ exact_word shift.y (λ us. shl_word shift.y shift.a_signed (operand us 0) (operand us 1))
-            (two_values shift.a shift.b a b) (two_taints shift.a shift.b a b) }
+        (two_values shift.a shift.b a b) (two_taints shift.a shift.b a b) }
     ensures fits { result < 2 ^ shift.y }
 {
     let mut word = extended(shift.a, shift.y, shift.a_signed, a);
@@ -30,7 +30,7 @@ pub fn right_taint(shift: Shift, a: Shadowed, b: Shadowed) -> u128
     requires a_within { IsWithin shift.a a }
     ensures word { word_of shift.y result
         ≡ exact_word shift.y (λ us. shr_word shift.y shift.a_signed (operand us 0) (operand us 1))
-            (two_values shift.a shift.b a b) (two_taints shift.a shift.b a b) }
+        (two_values shift.a shift.b a b) (two_taints shift.a shift.b a b) }
     ensures fits { result < 2 ^ shift.y }
 {
     let width = shown_width(shift);
@@ -48,7 +48,7 @@ fn sign_taint(shift: Shift, a: Shadowed, b: Shadowed) -> u128
     requires signed { shift.a_signed ≡ true }
     ensures word { word_of shift.y result
         ≡ exact_word shift.y (λ us. sshr_word shift.y true (operand us 0) (operand us 1))
-            (two_values shift.a shift.b a b) (two_taints shift.a shift.b a b) }
+        (two_values shift.a shift.b a b) (two_taints shift.a shift.b a b) }
     ensures fits { result < 2 ^ shift.y }
 {
     let width = shown_width(shift);
@@ -65,7 +65,7 @@ pub fn signed_taint(shift: Shift, a: Shadowed, b: Shadowed) -> u128
     requires a_within { IsWithin shift.a a }
     ensures word { word_of shift.y result
         ≡ exact_word shift.y (λ us. sshr_word shift.y shift.a_signed (operand us 0) (operand us 1))
-            (two_values shift.a shift.b a b) (two_taints shift.a shift.b a b) }
+        (two_values shift.a shift.b a b) (two_taints shift.a shift.b a b) }
     ensures fits { result < 2 ^ shift.y }
 {
     if shift.a_signed {
@@ -81,7 +81,7 @@ fn two_way_taint(shift: Shift, a: Shadowed, b: Shadowed) -> u128
     requires signed { shift.b_signed ≡ true }
     ensures word { word_of shift.y result
         ≡ exact_word shift.y (λ us. shift_word shift.y shift.a_signed shift.b_signed (operand us 0) (operand us 1))
-            (two_values shift.a shift.b a b) (two_taints shift.a shift.b a b) }
+        (two_values shift.a shift.b a b) (two_taints shift.a shift.b a b) }
     ensures fits { result < 2 ^ shift.y }
 {
     let width = shown_width(shift);
@@ -105,7 +105,7 @@ pub fn offset_taint(shift: Shift, a: Shadowed, b: Shadowed) -> u128
     requires a_within { IsWithin shift.a a }
     ensures word { word_of shift.y result
         ≡ exact_word shift.y (λ us. shift_word shift.y shift.a_signed shift.b_signed (operand us 0) (operand us 1))
-            (two_values shift.a shift.b a b) (two_taints shift.a shift.b a b) }
+        (two_values shift.a shift.b a b) (two_taints shift.a shift.b a b) }
     ensures fits { result < 2 ^ shift.y }
 {
     if shift.b_signed {
@@ -121,7 +121,7 @@ pub fn indexed_taint(shift: Shift, a: Shadowed, b: Shadowed) -> u128
     requires unsigned { shift.a_signed ≡ false }
     ensures word { word_of shift.y result
         ≡ exact_word shift.y (λ us. shiftx_word shift.y shift.b_signed (operand us 0) (operand us 1))
-            (two_values shift.a shift.b a b) (two_taints shift.a shift.b a b) }
+        (two_values shift.a shift.b a b) (two_taints shift.a shift.b a b) }
     ensures fits { result < 2 ^ shift.y }
 {
     offset_taint(shift, a, b)

@@ -1,4 +1,4 @@
-use Rattle.std.specs.Prelude.{◌≤◌, ◌<◌, ◌+◌, ◌*◌, ◌≡◌}
+use Rattle.std.specs.Prelude.{◌≤◌, ◌*◌}
 use Rattle.std.proofs.Common.{arith}
 use Rattle.std.proofs.Math.Nat.{mul-le-mul_right}
 use Rattle.word_choices.proofs.ChoiceValues.{block_fits}

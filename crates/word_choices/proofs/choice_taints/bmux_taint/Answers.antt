@@ -1,8 +1,7 @@
-use Rattle.std.specs.Prelude.{◌*◌, ◌^◌, ◌-◌, ◌≡◌, ◌<◌, suc, refl}
+use Rattle.std.specs.Prelude.{◌*◌, ◌^◌, ◌-◌, ◌≡◌, ◌<◌, suc}
 use Rattle.std.proofs.Common.{arith, ap, subst, ◌∙◌}
 use Rattle.word_choices.specs.Shadows.{IsChosen}
 use Rattle.cif_defs.specs.Words.{digit}
-use Rattle.word_choices.proofs.ShadowLaws.{IsShadow}
 use Rattle.word_choices.proofs.ChoiceShadows.{bmux_end, bmux_last, bmux_start, half_stage}
 use Rattle.word_choices.proofs.choice_taints.bmux_taint.Goals as goal
 

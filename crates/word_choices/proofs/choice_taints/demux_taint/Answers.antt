@@ -1,6 +1,5 @@
 use Rattle.std.specs.Prelude.{refl}
 use Rattle.std.proofs.Common.{arith}
-use Rattle.word_choices.proofs.ShadowLaws.{IsShadow}
 use Rattle.word_choices.proofs.ChoiceShadows.{block_stage, demux_end, demux_last, demux_start}
 use Rattle.word_choices.proofs.choice_taints.demux_taint.Goals as goal
 

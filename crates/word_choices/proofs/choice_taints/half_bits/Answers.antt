@@ -1,7 +1,7 @@
 use Rattle.std.specs.Prelude.{◌≤◌, ◌+◌, ◌*◌, ◌^◌, ◌≡◌}
 use Rattle.std.proofs.Common.{arith, ap}
 use Rattle.rule_select.proofs.StageSteps.{few_selects}
-use Rattle.rule_select.proofs.BlockTrees.{scaled_most, scaled_some, twice}
+use Rattle.rule_select.proofs.BlockTrees.{scaled_most, scaled_some}
 use Rattle.word_choices.proofs.ChoiceValues.{next_power}
 use Rattle.word_choices.proofs.choice_taints.half_bits.Goals as goal
 

@@ -1,6 +1,5 @@
 use Rattle.std.specs.Prelude.{◌*◌, ◌-◌, ◌<◌, ◌≡◌, suc, refl}
 use Rattle.std.proofs.Common.{arith}
-use Rattle.word_choices.proofs.ShadowLaws.{IsShadow}
 use Rattle.word_choices.proofs.ChainShadows.{chain_end, chain_stage, chain_start}
 use Rattle.word_choices.proofs.choice_taints.pmux_taint.Goals as goal
 

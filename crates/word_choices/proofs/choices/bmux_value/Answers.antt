@@ -1,4 +1,4 @@
-use Rattle.std.specs.Prelude.{◌≡◌, ◌*◌, ◌^◌}
+use Rattle.std.specs.Prelude.{◌*◌, ◌^◌}
 use Rattle.std.proofs.Common.{sym, ap}
 use Rattle.word_numbers.proofs.Digits.{number-held}
 use Rattle.word_choices.proofs.ChoiceValues.{bmux_by}

@@ -1,4 +1,4 @@
-use Rattle.std.specs.Prelude.{◌≡◌, ◌*◌, ◌^◌}
+use Rattle.std.specs.Prelude.{◌≡◌, ◌*◌}
 use Rattle.std.proofs.Common.{sym, ap, subst}
 use Rattle.cif_defs.specs.Words.{word_of}
 use Rattle.word_numbers.specs.HeldWords.{raised_word}

@@ -1,4 +1,4 @@
-use Rattle.std.specs.Prelude.{◌≡◌, ◌/◌, ◌%◌, ◌^◌, ◌==◌, false}
+use Rattle.std.specs.Prelude.{◌≡◌, ◌%◌, ◌^◌, ◌==◌}
 use Rattle.std.proofs.Common.{arith, ap, ◌∙◌}
 use Rattle.std.proofs.Math.Nat.{zero-div}
 use Rattle.cif_defs.specs.Words.{digit}

@@ -1,4 +1,4 @@
-use Rattle.std.specs.Prelude.{◌||◌, bit_or, bit_xor, refl}
+use Rattle.std.specs.Prelude.{◌||◌, refl}
 use Rattle.std.proofs.lemmas.Nat.{or_lt, xor_lt}
 use Rattle.cif_defs.specs.Words.{digit, xor}
 use Rattle.word_numbers.proofs.Digits.{word_of-or_by, word_of-xor_by}

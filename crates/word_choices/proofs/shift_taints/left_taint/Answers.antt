@@ -1,5 +1,4 @@
 use Rattle.std.proofs.Common.{arith}
-use Rattle.word_choices.proofs.ShadowLaws.{IsShadow}
 use Rattle.word_choices.proofs.ShiftShadows.{left_end, left_stage, start_shadow}
 use Rattle.word_choices.proofs.shift_taints.left_taint.Goals as goal
 

@@ -1,5 +1,4 @@
 use Rattle.std.proofs.Common.{arith}
-use Rattle.word_choices.proofs.ShadowLaws.{IsShadow}
 use Rattle.word_choices.proofs.ShiftShadows.{right_end, right_stage, start_shadow}
 use Rattle.word_choices.proofs.shift_taints.right_taint.Goals as goal
 

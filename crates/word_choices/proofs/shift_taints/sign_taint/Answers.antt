@@ -1,6 +1,5 @@
 use Rattle.std.specs.Prelude.{true}
 use Rattle.std.proofs.Common.{arith}
-use Rattle.word_choices.proofs.ShadowLaws.{IsShadow}
 use Rattle.word_choices.proofs.ShiftShadows.{signed_end, signed_stage, start_shadow}
 use Rattle.word_choices.proofs.shift_taints.sign_taint.Goals as goal
 

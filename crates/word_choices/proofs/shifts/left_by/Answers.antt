@@ -1,4 +1,4 @@
-use Rattle.std.specs.Prelude.{◌≡◌, ◌^◌, ◌+◌, ◌&&◌}
+use Rattle.std.specs.Prelude.{◌^◌, ◌+◌, ◌&&◌}
 use Rattle.std.proofs.Common.{sym, ap, ◌∙◌}
 use Rattle.cif_defs.specs.Words.{digit, top, word_of}
 use Rattle.cif_defs.proofs.WordLaws.{length-word}

@@ -1,4 +1,4 @@
-use Rattle.std.specs.Prelude.{◌≡◌, length, max}
+use Rattle.std.specs.Prelude.{max}
 use Rattle.std.proofs.Common.{sym, ap, ◌∙◌}
 use Rattle.cif_defs.specs.Words.{digit, word_of}
 use Rattle.cif_defs.proofs.WordLaws.{length-word}
