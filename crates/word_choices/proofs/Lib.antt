@@ -1,0 +1,9 @@
+pub mod MovedWords
+pub mod ShiftValues
+pub mod ChoiceValues
+pub mod ShadowLaws
+pub mod ShiftShadows
+pub mod ChoiceShadows
+pub mod ChainShadows
+pub mod OffsetShadows
+pub mod FormLaws

@@ -1,0 +1,18 @@
+use Rattle.std.specs.Prelude.{true}
+use Rattle.std.proofs.Common.{arith}
+use Rattle.word_choices.proofs.ShiftShadows.{signed_end, signed_stage, start_shadow}
+use Rattle.word_choices.proofs.shift_taints.sign_taint.Goals as goal
+
+pub loop-place-init : goal.loop-place-init
+loop-place-init c =
+    start_shadow c.shown_width-width.result c.args.shift.a c.args.shift.b true c.args.a c.args.b c.extended-word.result c.args.shift.some_a c.extended-word.ensures.value c.extended-word.ensures.taint c.extended-word.ensures.within
+
+pub loop-place-preserved : goal.loop-place-preserved
+loop-place-preserved c =
+    signed_stage c.shown_width-width.result c.args.shift.a c.args.shift.b c.loop-place.place c.step.result c.args.a c.args.b c.loop-place.word c.moved_down-moved.result c.chosen_at-word.result
+    c.shown_width-width.ensures.some c.shown_width-width.ensures.limit (omega (arith, c.loop-place-test.true)) c.step.ensures c.loop-place.invariant c.moved_down-moved.ensures.value c.moved_down-moved.ensures.taint c.moved_down-moved.ensures.within c.chosen_at-word.ensures
+
+pub returns-clause-word : goal.returns-clause-word
+returns-clause-word c =
+    signed_end c.args.shift.y c.args.shift.a c.args.shift.b c.shown_width-width.result c.lowest.result c.loop-place.place c.args.a c.args.b c.loop-place.word c.args.shift.some_a c.shown_width-width.ensures.value
+    (omega (arith, c.loop-place-test.false, c.loop-place.auto.place-end)) c.loop-place.invariant c.lowest.ensures.word
