@@ -4,7 +4,8 @@ use Rattle.cif_defs.specs.Cells.{Cell}
 use Rattle.word_numbers.specs.NarrowCells.{IsNarrow}
 use Rattle.word_logic.specs.LogicForms.{StandsFor as IsLogicForm}
 use Rattle.cif_words.specs.declared.form.WordForm.{WordForm}
-use Rattle.cif_words.specs.declared.form.WordForm.TheVariants.{Logic, Number, Adder}
+use Rattle.cif_words.specs.declared.form.WordForm.TheVariants.{Logic, Number, Adder, Choice}
+use Rattle.word_choices.specs.SelectForms.{StandsFor as IsSelectForm}
 use Rattle.word_sums.specs.CellForms.{IsFormOf}
 use Rattle.word_sums.specs.AluForms.{IsAluFormOf}
 
@@ -13,6 +14,7 @@ abbrev pub SaysOf : WordForm → Cell → Type 0
 SaysOf (Logic f) c = IsLogicForm f c
 SaysOf (Number f) c = IsFormOf f c
 SaysOf (Adder f) c = IsAluFormOf f.shape c
+SaysOf (Choice f) c = IsSelectForm f c
 
 pub record StandsFor (f : WordForm) (c : Cell) : Type 0 where
   pub narrow : IsNarrow c

@@ -9,12 +9,13 @@ ghost use Rattle.cif_words.specs.Forms.{StandsFor};
 
 use crate::narrow_ports::has_narrow_ports;
 use cif_kinds::{Cell, Kind};
+use word_choices::{SelectForm, taint as choice_taint, value as choice_value};
 use word_logic::LogicForm;
 use word_numbers::Words;
 use word_sums::{AluForm, Form as NumberForm};
 
 /// What a narrow combinational cell says beside the words of its operands.
-#[derive(Clone, Copy, Debug, PartialEq, Eq, Drop)]
+#[derive(Clone, Copy, Drop)]
 pub enum WordForm {
     /// A bitwise, reducing or wiring cell.
     Logic(LogicForm),
@@ -22,6 +23,8 @@ pub enum WordForm {
     Number(NumberForm),
     /// `$alu`.
     Adder(AluForm),
+    /// `$mux` or `$pmux`.
+    Choice(SelectForm),
 }
 
 impl WordForm {
@@ -44,7 +47,10 @@ impl WordForm {
         if matches!(kind, Kind::Alu) {
             return Some(WordForm::Adder(AluForm::of(cell)));
         }
-        None
+        match SelectForm::of(cell) {
+            Some(form) => Some(WordForm::Choice(form)),
+            None => None,
+        }
     }
 
     /// The words that a cell of this form gives, from the words of its operands.
@@ -60,6 +66,7 @@ impl WordForm {
             WordForm::Logic(form) => form.value(values),
             WordForm::Number(form) => form.value(values),
             WordForm::Adder(form) => form.value(values),
+            WordForm::Choice(form) => choice_value(*form, *values),
         }
     }
 
@@ -78,6 +85,7 @@ impl WordForm {
             WordForm::Logic(form) => form.taint(values, taints),
             WordForm::Number(form) => form.taint(values, taints),
             WordForm::Adder(form) => form.taint(values, taints),
+            WordForm::Choice(form) => choice_taint(*form, *values, *taints),
         }
     }
 }

@@ -7,3 +7,4 @@ pub mod ChoiceShadows
 pub mod ChainShadows
 pub mod OffsetShadows
 pub mod FormLaws
+pub mod CellForms

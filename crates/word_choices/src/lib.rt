@@ -8,6 +8,7 @@
 mod choice_taints;
 mod choices;
 mod form;
+mod read;
 mod shadowed;
 mod shapes;
 mod shift_taints;
