@@ -1,0 +1,6 @@
+pub mod Marks
+pub mod Meeting
+pub mod Leading
+pub mod Listings
+pub mod PartByPart
+pub mod Readying

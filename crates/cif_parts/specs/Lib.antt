@@ -1,0 +1,6 @@
+pub mod Marking
+pub mod Walks
+pub mod Closing
+pub mod Listing
+pub mod Planned
+pub mod Ready
