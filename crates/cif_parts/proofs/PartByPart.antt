@@ -1,13 +1,36 @@
 -- A plan, part by part.
-use Rattle.std.specs.Prelude.{ℕ, ◌+◌, ◌-◌, ◌<◌, ◌≤◌, ◌≡◌, ◌⊎◌, List, [], ◌∷◌, ◌++◌, length, get_or, map, refl}
+use Rattle.std.specs.Prelude.{ℕ, ◌+◌, ◌-◌, ◌<◌, ◌≤◌, ◌≡◌, ◌⊎◌, Bool, List, [], ◌∷◌, ◌++◌, length, get_or, map, refl}
 use Rattle.std.proofs.Common.{arith, ap, sym, ◌∙◌, inl, inr, subst, length-append}
 use Rattle.std.proofs.lemmas.List.{get_or_append_left, get_or-append_right, length-map}
+use Rattle.cif_defs.specs.Accepted.{netlist_of}
+use Rattle.cif_defs.specs.Loop.{IsLevelled}
+use Rattle.cif_defs.specs.declared.raw_module.Raw.{Raw}
 use Rattle.cif_seq.specs.Cases.{CaseOf, net_of}
-use Rattle.cif_pieces.specs.Parts.{Evaluates, OwnsCell}
+use Rattle.cif_pieces.specs.Parts.{Evaluates, OwnsCell, owner}
 use Rattle.cif_pieces.specs.Plans.{IsPlanOf, Lists, PlanOf}
 use Rattle.cif_pieces.specs.PlanView.{evaluated_by, owned_by}
 use Rattle.cif_pieces.specs.declared.plan.PartCells.{PartCells}
+use Rattle.cif_parts.proofs.Listings.{lists}
+use Rattle.cif_parts.specs.Listing.{IsListed}
+use Rattle.cif_parts.specs.Marking.{AreMarks}
 use Rattle.cif_parts.specs.Planned.{ArePlanned, IsPart}
+
+-- ---- the cells of one part
+
+pub is_part : (c : CaseOf) (raw : Raw) (parts part count : ℕ) (marks seen evaluated seen2 seen3 : List Bool) (own evaluate : List ℕ) → raw ≡ c.raw → count ≡ length (netlist_of raw).cells → IsLevelled (net_of c) c.order → AreMarks marks count (λ x. (x < count) × (owner count parts x ≡ part)) → seen ≡ marks
+    → ((q p : ℕ) → AreMarks seen (length (netlist_of raw).cells) (OwnsCell (netlist_of raw) q p) → AreMarks evaluated (length (netlist_of raw).cells) (Evaluates (netlist_of raw) q p)) → seen2 ≡ marks → seen3 ≡ evaluated
+    → IsListed (net_of c) c.order seen2 own (length c.order + length (net_of c).cells) → IsListed (net_of c) c.order seen3 evaluate (length c.order + length (net_of c).cells) → IsPart c parts part own evaluate
+is_part c raw parts part count marks seen evaluated seen2 seen3 own evaluate er ec o h es close e2 e3 lo le =
+    let owned : AreMarks marks (length (netlist_of raw).cells) (OwnsCell (netlist_of raw) parts part) = subst (λ (k : ℕ). AreMarks marks k (λ x. (x < k) × (owner k parts x ≡ part))) ec h in
+    let all : AreMarks evaluated (length (netlist_of raw).cells) (Evaluates (netlist_of raw) parts part) = close parts part (subst (λ (m : List Bool). AreMarks m (length (netlist_of raw).cells) (OwnsCell (netlist_of raw) parts part)) (sym es) owned) in
+    record {
+      owned = lists (net_of c) c.order seen2 own (OwnsCell (net_of c) parts part) o
+          (subst (λ (m : List Bool). AreMarks m (length (net_of c).cells) (OwnsCell (net_of c) parts part)) (sym e2) (subst (λ (x : Raw). AreMarks marks (length (netlist_of x).cells) (OwnsCell (netlist_of x) parts part)) er owned)) lo;
+      evaluated = lists (net_of c) c.order seen3 evaluate (Evaluates (net_of c) parts part) o
+          (subst (λ (m : List Bool). AreMarks m (length (net_of c).cells) (Evaluates (net_of c) parts part)) (sym e3) (subst (λ (x : Raw). AreMarks evaluated (length (netlist_of x).cells) (Evaluates (netlist_of x) parts part)) er all)) le;
+    }
+
+-- ---- part by part
 
 map_snoc : {A B : Type 0} (f : A → B) (xs : List A) (x : A) → map f (xs ++ x ∷ []) ≡ map f xs ++ f x ∷ []
 map_snoc f [] x = refl
