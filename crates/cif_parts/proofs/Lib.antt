@@ -4,3 +4,5 @@ pub mod Leading
 pub mod Listings
 pub mod PartByPart
 pub mod Readying
+pub mod FirstReady
+pub mod Pieces

@@ -40,15 +40,15 @@ given_in n s k = record { stored = state n s k; state = taint_state n s k; input
 
 -- ---- the values and the taints of a cycle are what is given under themselves
 
-value_given_in : (n : Netlist) (order : List ℕ) (s : Stimulus) (k b : ℕ) → IsWired n → IsLevelled n order → value n s k b ≡ value_given n (given_in n s k) (value n s k) b
+pub value_given_in : (n : Netlist) (order : List ℕ) (s : Stimulus) (k b : ℕ) → IsWired n → IsLevelled n order → value n s k b ≡ value_given n (given_in n s k) (value n s k) b
 value_given_in n order s k b w o = value_is_given n (state n s k) (input_value n s k) (place_in order) (ranked_from_levels n order w o) (rank_bound n order w o) b
 
-taint_given_in : (n : Netlist) (order : List ℕ) (s : Stimulus) (k b : ℕ) → IsWired n → IsLevelled n order → taint n s k b ≡ taint_given n (given_in n s k) (value n s k) (taint n s k) b
+pub taint_given_in : (n : Netlist) (order : List ℕ) (s : Stimulus) (k b : ℕ) → IsWired n → IsLevelled n order → taint n s k b ≡ taint_given n (given_in n s k) (value n s k) (taint n s k) b
 taint_given_in n order s k b w o = taint_is_given n (state n s k) (value n s k) (taint_state n s k) (input_taint n s k) (is_released s.lines) (place_in order) (ranked_from_levels n order w o) (rank_bound n order w o) b
 
 -- ---- a driver of a cell gives the same where the cell stores the same
 
-value_stored : (n : Netlist) (stored other : List Word) (input : ℕ → ℕ → Bool) (v : ℕ → Bool) (c : ℕ) (d : Driver) → is_of_cell c d ≡ true → get_or stored c [] ≡ get_or other c [] → driver_value n stored input v d ≡ driver_value n other input v d
+pub value_stored : (n : Netlist) (stored other : List Word) (input : ℕ → ℕ → Bool) (v : ℕ → Bool) (c : ℕ) (d : Driver) → is_of_cell c d ≡ true → get_or stored c [] ≡ get_or other c [] → driver_value n stored input v d ≡ driver_value n other input v d
 unfolding driver_value
 value_stored n stored other input v c (Input p i) h e = refl
 value_stored n stored other input v c Clock h e = refl
@@ -60,7 +60,7 @@ value_stored n stored other input v c (Register x i) h e =
     let same : get_or stored x [] ≡ get_or other x [] = subst (λ (y : ℕ). get_or stored y [] ≡ get_or other y []) (eqb-true c x h) e in
     ap (λ (z : Word). register_bit (role_at n x) (cell_at n x) v z i) same
 
-taint_stored : (n : Netlist) (stored other : List Word) (t u : TaintState) (input : ℕ → ℕ → Bool) (v below : ℕ → Bool) (c : ℕ) (d : Driver) → is_of_cell c d ≡ true → get_or stored c [] ≡ get_or other c [] → get_or t.stored c [] ≡ get_or u.stored c []
+pub taint_stored : (n : Netlist) (stored other : List Word) (t u : TaintState) (input : ℕ → ℕ → Bool) (v below : ℕ → Bool) (c : ℕ) (d : Driver) → is_of_cell c d ≡ true → get_or stored c [] ≡ get_or other c [] → get_or t.stored c [] ≡ get_or u.stored c []
     → get_or t.flags c false ≡ get_or u.flags c false → driver_taint n stored v t input below d ≡ driver_taint n other v u input below d
 unfolding driver_taint
 taint_stored n stored other t u input v below c (Input p i) h e f g = refl
@@ -198,7 +198,7 @@ reads_right n order cells needed parts part s k i c values taints w o h l at pc 
 
 -- ---- one more cell
 
-own_cell : (c : ℕ) → (c == c) ≡ true
+pub own_cell : (c : ℕ) → (c == c) ≡ true
 own_cell c = grind (arith, nat_tests)
 
 split_end : (i end : ℕ) → i < end + 1 → (i < end) ⊎ (i ≡ end)

@@ -3,4 +3,5 @@ pub mod Walks
 pub mod Closing
 pub mod Listing
 pub mod Planned
+pub mod SourcesSet
 pub mod Ready
