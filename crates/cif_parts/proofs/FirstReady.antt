@@ -1,8 +1,7 @@
 -- Once the sources are set, the bits that wait for no cell have the values and the taints of the cycle.
-use Rattle.std.specs.Prelude.{ℕ, ◌+◌, ◌<◌, ◌≤◌, ◌≡◌, ◌≢◌, ◌⊎◌, Bool, true, false, List, [], length, get_or, slice_set, refl}
+use Rattle.std.specs.Prelude.{ℕ, ◌+◌, ◌<◌, ◌≤◌, ◌≡◌, ◌≢◌, ◌⊎◌, Bool, true, false, List, length, get_or, slice_set, refl}
 use Rattle.std.proofs.Common.{arith, ap, sym, ◌∙◌, cond, inl, inr, subst, get_or-set_same, get_or-set_other}
 use Rattle.cif_defs.specs.Words.{Word, bit}
-use Rattle.cif_defs.specs.Evaluation.{is_of_cell}
 use Rattle.cif_defs.specs.Loop.{IsLevelled}
 use Rattle.cif_defs.specs.Netlist.{IsWired, Netlist, driver_of, role_at}
 use Rattle.cif_defs.specs.Run.{driver_value, driver_value_at_depth_0, input_value, state, value}

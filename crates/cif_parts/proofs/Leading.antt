@@ -5,9 +5,8 @@ use Rattle.cif_defs.specs.Loop.{Drives, DrivesAlong, IsLevelled, is_passing}
 use Rattle.cif_defs.specs.Netlist.{IsWired, Netlist, role_at}
 use Rattle.cif_defs.specs.Words.{bit}
 use Rattle.cif_defs.proofs.Orders.{has_place, place_in}
-use Rattle.cif_defs.proofs.WordLaws.{le_or_lt}
 use Rattle.cif_level.proofs.Driving.{HasOneOutput}
-use Rattle.cif_pieces.specs.Parts.{DrivesOperand, Evaluates, Feeds, LeadsTo, OwnsCell}
+use Rattle.cif_pieces.specs.Parts.{DrivesOperand, Evaluates, LeadsTo, OwnsCell}
 use Rattle.cif_parts.specs.Closing.{IsClosed}
 use Rattle.cif_parts.specs.Marking.{Adds, AreMarks}
 use Rattle.cif_parts.specs.Walks.{IsMet, IsMetFrom}

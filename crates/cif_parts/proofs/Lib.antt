@@ -6,3 +6,5 @@ pub mod PartByPart
 pub mod Readying
 pub mod FirstReady
 pub mod Pieces
+pub mod Joined
+pub mod Examples

@@ -1,10 +1,10 @@
 -- The cells that a walk meets are those that drive.
-use Rattle.std.specs.Prelude.{ℕ, ◌+◌, ◌*◌, ◌/◌, ◌%◌, ◌<◌, ◌≤◌, ◌≡◌, ◌⊎◌, Bool, true, false, List, [], length, get_or, Option, Some, None, refl}
+use Rattle.std.specs.Prelude.{ℕ, ◌+◌, ◌*◌, ◌/◌, ◌%◌, ◌<◌, ◌≤◌, ◌≡◌, ◌⊎◌, Bool, true, false, List, [], length, get_or, Some, None, refl}
 use Rattle.std.proofs.Common.{arith, sym, ap, subst, ◌∙◌, cond, inl, inr}
 use Rattle.std.proofs.lemmas.List.{get_or_past}
 use Rattle.cif_defs.specs.Cells.{Cell, width}
 use Rattle.cif_defs.specs.Kinds.{role_of}
-use Rattle.cif_defs.specs.Loop.{Drives, is_passing, counts}
+use Rattle.cif_defs.specs.Loop.{Drives, is_passing}
 use Rattle.cif_defs.specs.Netlist.{Netlist, IsWired, cell_at, driver_of, no_cell, role_at, output_at, operand_at}
 use Rattle.cif_defs.specs.Words.{bit}
 use Rattle.cif_defs.specs.declared.kinds.Role.{Role}

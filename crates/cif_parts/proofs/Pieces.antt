@@ -1,6 +1,6 @@
 -- Once all its cells are evaluated, a part has worked out what it owns.
-use Rattle.std.specs.Prelude.{ℕ, ◌<◌, ◌≤◌, ◌≡◌, ◌⊎◌, Bool, true, false, List, [], length, get_or, Option, Some, None, refl}
-use Rattle.std.proofs.Common.{arith, ap, sym, ◌∙◌, inl, inr, subst}
+use Rattle.std.specs.Prelude.{ℕ, ◌<◌, ◌≡◌, Bool, true, List, length, Some, refl}
+use Rattle.std.proofs.Common.{ap, sym, inl, inr}
 use Rattle.std.proofs.lemmas.List.{get_or_past}
 use Rattle.cif_defs.specs.Words.{Word, bit}
 use Rattle.cif_defs.specs.Cells.{Cell}
@@ -12,10 +12,9 @@ use Rattle.cif_defs.specs.declared.nets.Driver.{Driver}
 use Rattle.cif_defs.specs.declared.nets.Driver.TheVariants.{Input, Output, Register, Read, Clock}
 use Rattle.cif_defs.proofs.WordLaws.{le_or_lt}
 use Rattle.cif_seq.specs.Cases.{CaseOf, net_of}
-use Rattle.cif_pieces.specs.Parts.{Evaluates, OwnsCell, OwnsNet, driver_owner, owner}
+use Rattle.cif_pieces.specs.Parts.{OwnsCell, driver_owner, owner}
 use Rattle.cif_pieces.specs.Pieces.{HoldsPiece, piece_of}
 use Rattle.cif_parts.specs.Ready.{AreReady, IsAmongFirst, IsReadyBy, IsRegisterReady, StoresRight}
-use Rattle.cif_parts.specs.Walks.{IsNeededBy}
 use Rattle.cif_parts.proofs.Readying.{IsListOf}
 
 -- what a part owns stands in its list, and its word is needed

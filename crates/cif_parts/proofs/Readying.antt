@@ -1,17 +1,17 @@
 -- A part evaluates its cells, one after another: each bit that is ready has the value and the taint of the cycle.
-use Rattle.std.specs.Prelude.{ℕ, ◌+◌, ◌<◌, ◌≤◌, ◌≡◌, ◌==◌, ◌⊎◌, Bool, true, false, List, [], ◌∷◌, length, get_or, Some, None, Option, refl}
+use Rattle.std.specs.Prelude.{ℕ, ◌+◌, ◌<◌, ◌≤◌, ◌≡◌, ◌==◌, ◌⊎◌, Bool, true, false, List, [], length, get_or, refl}
 use Rattle.std.proofs.Common.{arith, ap, sym, ◌∙◌, cond, inl, inr, subst}
 use Rattle.std.proofs.lemmas.Bool.{eqb-true}
 use Rattle.std.proofs.lemmas.Bool.Decides.{nat_tests}
-use Rattle.cif_defs.specs.Words.{Word, bit, operand}
+use Rattle.cif_defs.specs.Words.{Word, bit}
 use Rattle.cif_defs.specs.Cells.{shape_of}
 use Rattle.cif_defs.specs.Evaluation.{evaluate_one, is_of_cell}
 use Rattle.cif_defs.specs.Loop.{Drives, IsLevelled, counts, is_passing}
 use Rattle.cif_defs.specs.Memory.{read_address, read_taint, read_word}
-use Rattle.cif_defs.specs.Netlist.{IsWired, Netlist, cell_at, driver_of, operand_at, output_at, role_at}
-use Rattle.cif_defs.specs.Run.{driver_value, input_value, operand_words, register_bit, state, value, value_in}
+use Rattle.cif_defs.specs.Netlist.{IsWired, Netlist, cell_at, driver_of, operand_at, role_at}
+use Rattle.cif_defs.specs.Run.{driver_value, input_value, operand_words, register_bit, state, value}
 use Rattle.cif_defs.specs.Stimulus.{Stimulus, is_released}
-use Rattle.cif_defs.specs.TaintRun.{TaintState, driver_taint, input_taint, operand_taints, register_taint, settled_taint, taint, taint_state}
+use Rattle.cif_defs.specs.TaintRun.{TaintState, driver_taint, input_taint, operand_taints, register_taint, taint, taint_state}
 use Rattle.cif_defs.specs.declared.kinds.Role.{Role}
 use Rattle.cif_defs.specs.declared.kinds.Role.TheVariants.{CarriedOver, Combinational, MemoryBlock, PlainRegister, ResetRegister}
 use Rattle.cif_defs.specs.declared.nets.Driver.{Driver}
@@ -22,7 +22,7 @@ use Rattle.cif_defs.proofs.Orders.{driver_before, place_in, rank_bound, ranked_f
 use Rattle.cif_defs.proofs.TaintSettles.{taint_is_given}
 use Rattle.cif_shown.specs.Evaluates.{EvaluatesTaints, EvaluatesValues}
 use Rattle.cif_shown.specs.Shown.{Given, SameAtOperands, taint_given, value_given}
-use Rattle.cif_shown.proofs.ByReads.{counts_passing, taint_by_operands, value_by_operands}
+use Rattle.cif_shown.proofs.ByReads.{taint_by_operands, value_by_operands}
 use Rattle.cif_defs.proofs.WordLaws.{le_or_lt}
 use Rattle.cif_pieces.specs.Parts.{Evaluates}
 use Rattle.cif_pieces.specs.Plans.{ComesBefore, Lists}
@@ -30,7 +30,7 @@ use Rattle.cif_pieces.specs.Plans.{place_in as place_of_plan}
 use Rattle.cif_parts.proofs.Leading.{feeds_on}
 use Rattle.cif_parts.proofs.Listings.{comes_placed}
 use Rattle.cif_parts.specs.Marking.{AreMarks}
-use Rattle.cif_parts.specs.Ready.{AreReady, IsAmongFirst, IsReady, IsReadyBy, IsRegisterReady, IsRight, StoresRight}
+use Rattle.cif_parts.specs.Ready.{AreReady, IsAmongFirst, IsReadyBy, IsRegisterReady, IsRight, StoresRight}
 use Rattle.cif_parts.specs.Walks.{IsMet, IsNeededBy, met_at, met_by}
 use Rattle.cif_parts.specs.declared.walk.Walk.TheVariants.{Shown}
 
@@ -156,8 +156,8 @@ drives_again n order cells parts part i c d j o h l at p v lj atj =
             (subst (λ (y : ℕ). ComesBefore (get_or cells i 0) y (place_of_plan order (get_or cells i 0)) (place_of_plan order y)) atj (h.ordered i j f lj))) in omega arith)
       ]
     ] where
-  same_or_after : (i j : ℕ) → i ≤ j → (i ≡ j) ⊎ (i < j)
-  same_or_after i j h = search arith
+      same_or_after : (i j : ℕ) → i ≤ j → (i ≡ j) ⊎ (i < j)
+      same_or_after i j h = search arith
 
 driver_first : (n : Netlist) (order cells : List ℕ) (parts part i c d : ℕ) → IsLevelled n order → Lists order (Evaluates n parts part) cells → i < length cells → get_or cells i 0 ≡ c → is_passing (role_at n c) ≡ true → Drives n d c → IsAmongFirst cells i d
 driver_first n order cells parts part i c d o h l at p v =

@@ -75,8 +75,7 @@ impl Walk {
         match netlist.driver(bit) {
             Driver::Output { cell, .. } | Driver::Read { cell, .. } => Some(cell),
             Driver::Register { cell, .. }
-                if self.meets_register(role(netlist.cells()[cell as usize].kind())) =>
-            {
+                if self.meets_register(role(netlist.cells()[cell as usize].kind())) => {
                 Some(cell)
             }
             Driver::Register { .. } | Driver::Input { .. } | Driver::Clock => None,

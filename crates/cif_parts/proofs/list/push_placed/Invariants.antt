@@ -1,4 +1,3 @@
-use Rattle.std.proofs.Common.{ℕ}
 use Rattle.cif_defs.specs.Loop.{IsLevelled}
 use Rattle.cif_defs.specs.Netlist.{Netlist}
 use Rattle.cif_parts.specs.Listing.{IsListed}

@@ -1,5 +1,5 @@
 use Rattle.std.proofs.Common.{refl}
-use Rattle.cif_parts.proofs.Marks.{owned_more, owned_none}
+use Rattle.cif_parts.proofs.Marks.{owned_more}
 use Rattle.cif_parts.proofs.mark.owned_marks.Goals as goal
 
 pub loop-number-preserved : goal.loop-number-preserved

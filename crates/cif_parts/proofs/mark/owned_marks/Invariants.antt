@@ -1,4 +1,4 @@
-use Rattle.std.proofs.Common.{◌≡◌, ◌<◌, ℕ}
+use Rattle.std.proofs.Common.{◌≡◌, ◌<◌}
 use Rattle.cif_pieces.specs.Parts.{owner}
 use Rattle.cif_parts.specs.Marking.{AreMarks}
 use Rattle.cif_parts.proofs.mark.owned_marks.Given as goal

@@ -1,4 +1,4 @@
-use Rattle.std.proofs.Common.{◌+◌, ◌*◌, ◌/◌, ◌≡◌, ◌≤◌, ◌<◌, sym, arith}
+use Rattle.std.proofs.Common.{◌+◌, ◌*◌, ◌≤◌, ◌<◌, arith}
 use Rattle.std.proofs.lemmas.Nat.{div_below, row_fits_turned}
 use Rattle.cif_parts.proofs.mark.owner.Goals as goal
 

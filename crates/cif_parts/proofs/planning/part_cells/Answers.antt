@@ -1,5 +1,4 @@
-use Rattle.std.proofs.Common.{◌∙◌, List, ap, length}
-use Rattle.cif_defs.specs.Accepted.{netlist_of}
+use Rattle.std.proofs.Common.{List, ap, length}
 use Rattle.cif_defs.specs.Cells.{Cell}
 use Rattle.cif_parts.proofs.PartByPart.{is_part}
 use Rattle.cif_parts.proofs.planning.part_cells.Goals as goal

@@ -1,5 +1,4 @@
-use Rattle.std.proofs.Common.{ℕ, List, ◌∙◌, ◌≤◌, sym, subst, length, arith}
-use Rattle.cif_parts.proofs.PartByPart.{planned, planned_more, planned_none}
+use Rattle.cif_parts.proofs.PartByPart.{planned_more}
 use Rattle.cif_parts.proofs.planning.plan.Goals as goal
 
 pub loop-part-preserved : goal.loop-part-preserved

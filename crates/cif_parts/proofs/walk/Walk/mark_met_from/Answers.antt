@@ -1,4 +1,4 @@
-use Rattle.std.proofs.Common.{◌∙◌, ◌≤◌, ◌+◌, Bool, List, [], ap, sym, subst, length, get_or, arith}
+use Rattle.std.proofs.Common.{◌∙◌, ◌≤◌, ◌+◌, Bool, List, [], ap, sym, subst, length, get_or}
 use Rattle.cif_defs.specs.Accepted.{netlist_of}
 use Rattle.cif_defs.specs.Cells.{Cell}
 use Rattle.cif_defs.specs.Kinds.{role_of}
