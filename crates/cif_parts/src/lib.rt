@@ -1,5 +1,7 @@
-//! A cycle worked out in pieces: the plan of which part of a netlist owns and evaluates which cells, the piece of one part,
-//! and the frame that the pieces of all parts make.
+//! A cycle worked out in pieces: the plan, which says for each part of a netlist which cells it owns and which it evaluates.
+//!
+//! The laws by which a part that evaluates its cells in order holds its piece, and by which tables that are right make a
+//! frame, stand in `proofs/`.
 #![tactic(auto)]
 
 mod list;
