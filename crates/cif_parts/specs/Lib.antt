@@ -1,0 +1,7 @@
+pub mod Marking
+pub mod Walks
+pub mod Closing
+pub mod Listing
+pub mod Planned
+pub mod SourcesSet
+pub mod Ready

@@ -1,0 +1,109 @@
+// The marks of the cells that a part owns, and of those that it evaluates.
+ghost use Rattle.std.specs.Prelude.{◌≡◌, ℕ, ◌<◌, ◌≤◌, true, length, IfOk};
+ghost use Rattle.cif_defs.specs.Accepted.{netlist_of};
+ghost use Rattle.cif_defs.specs.Loop.{IsLevelled};
+ghost use Rattle.cif_pieces.specs.Parts.{Evaluates, OwnsCell, owner as owner_of};
+ghost use Rattle.cif_parts.specs.Closing.{IsClosed};
+ghost use Rattle.cif_parts.specs.Marking.{Adds, AreMarks};
+ghost use Rattle.cif_parts.specs.Walks.{IsMetFrom};
+ghost use Rattle.cif_parts.specs.declared.walk.Walk.TheVariants.{Operands};
+
+use crate::walk::Walk;
+use cif_cells::Netlist;
+use cif_cycle::bit_of;
+use std::alloc::{AllocError, Global};
+
+/// The part, of so many, that owns a cell of so many.
+pub(crate) fn owner(cells: u32, parts: u32, number: u32) -> u32
+    requires inside { number < cells }
+    requires some { 0 < parts }
+    requires few { parts ≤ 64 }
+    ensures is { result ≡ owner_of cells parts number }
+    ensures part { result < parts }
+{
+    (u64::from(number) * u64::from(parts) / u64::from(cells)) as u32
+}
+
+/// For each of so many cells whether a part owns it.
+pub(crate) fn owned_marks(
+    alloc: Global,
+    cells: u32,
+    parts: u32,
+    part: u32,
+) -> Result<Vec<bool>, AllocError>
+    requires few { parts ≤ 64 }
+    requires some { 0 < parts }
+    ensures { IfOk result (λ m. AreMarks m.items cells
+        (λ c. (c < cells) × (owner_of cells parts c ≡ part))) }
+{
+    let mut marks = Vec::with_capacity(alloc, cells as usize)?;
+    for number in 0..cells {
+        marks.push(owner(cells, parts, number) == part)?;
+    }
+    Ok(marks)
+}
+
+/// Marks the passing cells that drive an operand bit of an owned cell.
+fn mark_fed(netlist: &Netlist, owned: &[bool], marks: &mut [bool])
+    requires { length marks.old ≡ length (netlist_of netlist.now).cells }
+    ensures { Adds marks.old marks.new
+        (IsMetFrom Operands (netlist_of netlist.now) owned.now (length (netlist_of netlist.now).cells)) }
+{
+    let count = netlist.cells().len() as u32;
+    for number in 0..count {
+        if bit_of(owned, number as usize) {
+            Walk::Operands.mark_met_from(netlist, number, marks);
+        }
+    }
+}
+
+/// Marks the passing cells from which a path leads to a marked cell, backwards along the levelled order.
+fn mark_leading(netlist: &Netlist, order: &[u32], marks: &mut [bool])
+    requires levelled { IsLevelled (netlist_of netlist.now) order.now }
+    requires as_many { length marks.old ≡ length (netlist_of netlist.now).cells }
+    ensures closed { (parts part : ℕ)
+        → IsClosed (netlist_of netlist.now) order.now parts part (length order.now) marks.old
+        → IsClosed (netlist_of netlist.now) order.now parts part 0 marks.new }
+    ensures as_many { length marks.new ≡ length marks.old }
+{
+    let _accepted = netlist.cells();
+    let count = order.len();
+    for step in 0..count {
+        let number = order[count - 1 - step];
+        if bit_of(marks, number as usize) {
+            Walk::Counting.mark_met_from(netlist, number, marks);
+        }
+    }
+}
+
+/// Marks besides the owned cells those that a part evaluates.
+fn mark_evaluated(netlist: &Netlist, order: &[u32], owned: &[bool], marks: &mut [bool])
+    requires levelled { IsLevelled (netlist_of netlist.now) order.now }
+    requires as_many { length owned.now ≡ length (netlist_of netlist.now).cells }
+    requires same { marks.old ≡ owned.now }
+    ensures { (parts part : ℕ)
+        → AreMarks owned.now (length (netlist_of netlist.now).cells) (OwnsCell (netlist_of netlist.now) parts part)
+        → AreMarks marks.new (length (netlist_of netlist.now).cells) (Evaluates (netlist_of netlist.now) parts part) }
+{
+    let _accepted = netlist.cells();
+    mark_fed(netlist, owned, marks);
+    mark_leading(netlist, order, marks);
+}
+
+/// For each cell whether a part evaluates it, from the marks of those that it owns.
+pub(crate) fn evaluated_marks(
+    alloc: Global,
+    netlist: &Netlist,
+    order: &[u32],
+    owned: &[bool],
+) -> Result<Vec<bool>, AllocError>
+    requires levelled { IsLevelled (netlist_of netlist.now) order.now }
+    requires as_many { length owned.now ≡ length (netlist_of netlist.now).cells }
+    ensures { IfOk result (λ m. (parts part : ℕ)
+        → AreMarks owned.now (length (netlist_of netlist.now).cells) (OwnsCell (netlist_of netlist.now) parts part)
+        → AreMarks m.items (length (netlist_of netlist.now).cells) (Evaluates (netlist_of netlist.now) parts part)) }
+{
+    let mut marks = Vec::from_slice(alloc, owned)?;
+    mark_evaluated(netlist, order, owned, &mut marks);
+    Ok(marks)
+}
