@@ -28,16 +28,16 @@ within_to (x ∷ xs) h =
 -- where the operands are narrow, the outputs decide
 pub by_outputs : (c : Cell) (a b : Bool) → IsFitted c → a ≡ list_all (λ bits. nat_le (length bits) 128) c.operands → b ≡ list_all (λ bits. nat_le (length bits) 128) c.outputs → a ≡ true → IsTrue b ↔ IsNarrow c
 by_outputs c a b fit ea eb h = (
-    λ t. record {
-      operands = within_from c.operands (sym ea ∙ h);
-      outputs = subst (λ (ns : List ℕ). AreWithin128 ns) fit.outputs (within_from c.outputs (sym eb ∙ t));
-    },
-    λ n. eb ∙ within_to c.outputs (subst (λ (ns : List ℕ). AreWithin128 ns) (sym fit.outputs) n.outputs)
-  )
+  λ t. record {
+    operands = within_from c.operands (sym ea ∙ h);
+    outputs = subst (λ (ns : List ℕ). AreWithin128 ns) fit.outputs (within_from c.outputs (sym eb ∙ t));
+  },
+  λ n. eb ∙ within_to c.outputs (subst (λ (ns : List ℕ). AreWithin128 ns) (sym fit.outputs) n.outputs),
+)
 
 -- where they aren't, the cell isn't narrow
 pub by_operands : (c : Cell) (a : Bool) → a ≡ list_all (λ bits. nat_le (length bits) 128) c.operands → a ≡ false → IsTrue a ↔ IsNarrow c
 by_operands c a ea h = (
-    λ t. absurd (let e : true ≡ false = sym t ∙ h in cc),
-    λ n. ea ∙ within_to c.operands n.operands
-  )
+  λ t. absurd (let e : true ≡ false = sym t ∙ h in cc),
+  λ n. ea ∙ within_to c.operands n.operands,
+)

@@ -20,7 +20,7 @@ pub loop-i-preserved : goal.loop-i-preserved
 loop-i-preserved c = record {
   forms = form_more (netlist_of c.args.netlist.now) c.cells-cells.result.now c.loop-i.forms.items c.push.new.self.items c.loop-i.i c.index-cells-i.result c.of.result c.loop-i.invariant.forms c.loop-i.invariant.as_many c.loop-i-test.true c.cells-cells.ensures.are c.index-cells-i.is c.of.ensures c.in_ok-push.ensures.items;
   as_many =
-    let long = length-append c.loop-i.forms.items (c.of.result ∷ []) in
-    let made : length c.push.new.self.items ≡ _ = ap length c.in_ok-push.ensures.items in
-    omega (arith, c.loop-i.invariant.as_many);
+      let long = length-append c.loop-i.forms.items (c.of.result ∷ []) in
+      let made : length c.push.new.self.items ≡ _ = ap length c.in_ok-push.ensures.items in
+      omega (arith, c.loop-i.invariant.as_many);
 }

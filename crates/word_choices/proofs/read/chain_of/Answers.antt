@@ -14,7 +14,7 @@ pub invariant_of-result : goal.invariant_of-result
 invariant_of-result c =
     let cell = pmux_narrow c.args.cell.now c.requires.fitted c.requires.narrow c.requires.kind in
     let product : c.narrow_number-width.result * c.narrow_number-selects.result ≡ width c.args.cell.now * number_of c.args.cell.now SWidth =
-        ap (λ n. n * c.narrow_number-selects.result) c.narrow_number-width.ensures ∙ ap (λ n. width c.args.cell.now * n) c.narrow_number-selects.ensures in
+    ap (λ n. n * c.narrow_number-selects.result) c.narrow_number-width.ensures ∙ ap (λ n. width c.args.cell.now * n) c.narrow_number-selects.ensures in
     record {
       some = subst (λ n. 1 ≤ n) (sym c.narrow_number-width.ensures) cell.some;
       some_selects = subst (λ n. 1 ≤ n) (sym c.narrow_number-selects.ensures) cell.selects_some;
