@@ -1,22 +1,22 @@
 -- What all cells store, cell by cell.
-use Rattle.std.specs.Prelude.{ℕ, ◌+◌, ◌<◌, ◌≤◌, ◌≡◌, Bool, false, List, [], ◌∷◌, ◌++◌, map, length, get_or}
+use Rattle.std.specs.Prelude.{ℕ, ◌+◌, ◌<◌, ◌≤◌, ◌≡◌, Bool, true, false, List, [], ◌∷◌, ◌++◌, map, length, get_or}
 use Rattle.std.specs.List.{range_with_len}
 use Rattle.std.proofs.Common.{arith, ap, sym, subst, ◌∙◌}
 use Rattle.std.proofs.lemmas.List.{get_or_default}
 use Rattle.std.proofs.lemmas.List.FromFn.{map-range_with_len_more}
 use Rattle.cif_defs.specs.Words.{Word}
 use Rattle.cif_defs.specs.Accepted.{netlist_of}
-use Rattle.cif_defs.specs.Kinds.{role_of}
-use Rattle.cif_defs.specs.Cells.{Cell, state_bits}
+use Rattle.cif_defs.specs.Kinds.{is_register, role_of}
+use Rattle.cif_defs.specs.Cells.{Cell, next_word, state_bits}
 use Rattle.cif_defs.specs.Fitted.{IsFitted, operand_widths}
-use Rattle.cif_defs.specs.Netlist.{Netlist, no_cell, cell_at}
+use Rattle.cif_defs.specs.Netlist.{Netlist, no_cell, cell_at, role_at}
 use Rattle.cif_defs.specs.Stimulus.{Stimulus, start_at}
-use Rattle.cif_defs.specs.Run.{state, operand_words}
-use Rattle.cif_defs.specs.TaintRun.{taint_state, operand_taints}
+use Rattle.cif_defs.specs.Run.{operand_words, state, stored_by}
+use Rattle.cif_defs.specs.TaintRun.{operand_taints, taint_state, taint_stored_by}
+use Rattle.cif_defs.specs.Taint.{next_register_taint}
 use Rattle.cif_defs.specs.declared.raw_module.Raw.{Raw}
-use Rattle.cif_defs.specs.declared.kinds.Kind.{Kind}
 use Rattle.cif_defs.specs.declared.kinds.Role.{Role}
-use Rattle.cif_defs.specs.declared.kinds.Role.TheVariants.{MemoryBlock}
+use Rattle.cif_defs.specs.declared.kinds.Role.TheVariants.{CarriedOver, Combinational, MemoryBlock, PlainRegister, ResetRegister}
 use Rattle.cif_defs.proofs.WordLaws.{length-word}
 use Rattle.cif_checks.specs.Checks.{IsAccepted}
 use Rattle.cif_cells.specs.NetlistView.{AreFitted}
@@ -78,8 +78,23 @@ pub narrow_read : (raw : Raw) (c : ℕ) (x : Cell) → IsAccepted raw → c < le
 unfolding AreNarrow
 narrow_read raw c x h l e = λ p. (let small = narrow_operand raw h c p l in let same : length (get_or x.operands p []) ≡ length (get_or (cell_at (netlist_of raw) c).operands p []) = ap (λ (z : Cell). length (get_or z.operands p [])) e in omega arith)
 
-pub role_read : (x : Cell) (k : Kind) (q r : Role) → k ≡ x.kind → q ≡ role_of k → q ≡ r → role_of x.kind ≡ r
-role_read x k q r e h is = ap role_of (sym e) ∙ sym h ∙ is
+pub role_found : (n : Netlist) (c : ℕ) (x : Cell) (r : Role) → x ≡ cell_at n c → role_at n c ≡ r → role_of x.kind ≡ r
+role_found n c x r e h = ap (λ (z : Cell). role_of z.kind) e ∙ h
+
+-- a register stores its next word, with its taint
+pub register_stores : (r : Role) (c x : Cell) (v : ℕ → Bool) (w y : Word) → is_register r ≡ true → x ≡ c → y ≡ next_word x (operand_words v x) w → y ≡ stored_by r c v w
+register_stores PlainRegister c x v w y h e q = q ∙ ap (λ (z : Cell). next_word z (operand_words v z) w) e
+register_stores ResetRegister c x v w y h e q = q ∙ ap (λ (z : Cell). next_word z (operand_words v z) w) e
+register_stores MemoryBlock c x v w y h e q = absurd (cc)
+register_stores Combinational c x v w y h e q = absurd (cc)
+register_stores CarriedOver c x v w y h e q = absurd (cc)
+
+pub register_taints : (r : Role) (c x : Cell) (v t : ℕ → Bool) (w u y : Word) → is_register r ≡ true → x ≡ c → y ≡ next_register_taint x (operand_words v x) (operand_taints t x) w u → y ≡ taint_stored_by r c v t w u
+register_taints PlainRegister c x v t w u y h e q = q ∙ ap (λ (z : Cell). next_register_taint z (operand_words v z) (operand_taints t z) w u) e
+register_taints ResetRegister c x v t w u y h e q = q ∙ ap (λ (z : Cell). next_register_taint z (operand_words v z) (operand_taints t z) w u) e
+register_taints MemoryBlock c x v t w u y h e q = absurd (cc)
+register_taints Combinational c x v t w u y h e q = absurd (cc)
+register_taints CarriedOver c x v t w u y h e q = absurd (cc)
 
 pub numbers_read : (raw : Raw) (c : ℕ) (x : Cell) → IsAccepted raw → c < length (netlist_of raw).cells → x ≡ cell_at (netlist_of raw) c → role_of x.kind ≡ MemoryBlock → HasMemoryNumbers x
 numbers_read raw c x h l e r =

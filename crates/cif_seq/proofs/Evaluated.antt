@@ -21,8 +21,8 @@ use Rattle.cif_defs.proofs.WordLaws.{le_or_lt, bit-word}
 use Rattle.cif_defs.specs.Evaluation.{evaluate_one, is_of_cell}
 use Rattle.cif_cycle.specs.CellWords.{read_taints, read_words}
 use Rattle.cif_shown.specs.Evaluates.{EvaluatesTaints, EvaluatesValues, Marks}
-use Rattle.cif_seq.specs.Writes.{cleared, put_word, put_words}
-use Rattle.cif_seq.proofs.PutWords.{put_word_here, put_word_other, put_words_here, put_words_other}
+use Rattle.cif_writes.specs.Writes.{cleared, put_word, put_words}
+use Rattle.cif_writes.proofs.PutWords.{put_word_here, put_word_other, put_words_here, put_words_other}
 
 -- ---- drivers
 

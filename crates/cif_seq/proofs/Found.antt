@@ -18,7 +18,7 @@ use Rattle.cif_kinds.specs.StateCells.{HasMemoryNumbers}
 use Rattle.cif_term.specs.CellTaints.{output_width, taint_word, taint_words}
 use Rattle.cif_cycle.specs.CellWords.{read_taints, read_words}
 use Rattle.cif_shown.specs.Evaluates.{EvaluatesTaints, EvaluatesValues, Marks}
-use Rattle.cif_seq.specs.Writes.{put_word, put_words}
+use Rattle.cif_writes.specs.Writes.{put_word, put_words}
 use Rattle.cif_seq.proofs.Evaluated.{memory_taints, memory_values, outputs_taints, outputs_values, register_taints, register_values}
 use Rattle.cif_cycle.proofs.MemoryReads.{ports_of_memory}
 use Rattle.cif_cycle.proofs.ResetWords.{ports_of_register}

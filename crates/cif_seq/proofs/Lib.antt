@@ -1,7 +1,6 @@
-pub mod PutWords
 pub mod Evaluated
 pub mod Found
-pub mod HeldOutputs
+pub mod NarrowGiven
 pub mod Slices
 pub mod Settling
 pub mod CaseLaws

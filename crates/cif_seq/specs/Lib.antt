@@ -1,4 +1,3 @@
-pub mod Writes
 pub mod Stored
 pub mod Inputs
 pub mod Cases

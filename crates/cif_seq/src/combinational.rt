@@ -13,12 +13,12 @@ ghost use Rattle.cif_term.specs.CellTaints.{taint_words as word_taints};
 ghost use Rattle.cif_shown.specs.Evaluates.{EvaluatesValues, EvaluatesTaints};
 
 use crate::case::Case;
-use crate::write::{write_numbers, write_words};
 use cif_bits::{Bits, NoMemory};
 use cif_cells::{Cell, Role, Src, meaning};
 use cif_cycle::{bit_of, taint_words, value_words};
 use cif_ports::{operand_taints, operand_values};
 use cif_words::WordForm;
+use cif_writes::{write_numbers, write_words};
 use std::alloc::Global;
 
 /// Whether one of some bits that are read is tainted, where `taints` are those of the net bits.

@@ -11,7 +11,6 @@ mod roles;
 mod settle;
 mod sources;
 mod state;
-mod write;
 
 pub use case::Case;
 pub use cif_rules::taint_of;

@@ -1,6 +1,10 @@
-// Memories: what they start with, and what they show at their read ports.
+// Memories: what they start with, what they show at their read ports, and what they store next.
 ghost use Rattle.std.specs.Prelude.{◌≡◌, ◌<◌, false, length, IfOk, IsOk};
-ghost use Rattle.cif_defs.specs.Netlist.{role_at};
+ghost use Rattle.cif_defs.specs.Netlist.{cell_at, role_at};
+ghost use Rattle.cif_defs.specs.Cells.{state_bits};
+ghost use Rattle.cif_defs.specs.Run.{stored_by};
+ghost use Rattle.cif_defs.specs.TaintRun.{flag_by, taint_stored_by};
+ghost use Rattle.cif_defs.specs.Words.{bit};
 ghost use Rattle.cif_defs.specs.Stimulus.{is_released, start_at};
 ghost use Rattle.cif_defs.specs.Accepted.{netlist_of};
 ghost use Rattle.cif_starts.specs.Starts.{IsTableOf};
@@ -10,12 +14,14 @@ ghost use Rattle.cif_seq.specs.Stored.{IsStored};
 ghost use Rattle.cif_shown.specs.Evaluates.{EvaluatesValues, EvaluatesTaints};
 
 use crate::case::Case;
-use crate::write::write_word;
 use cif_bits::NoMemory;
 use cif_cells::{Netlist, Role};
-use cif_cycle::{CellState, StateWord, StoredWords, read_data};
+use cif_cycle::{
+    CellState, StateRef, StateWord, StoredWords, next_memory, read_data, taint_words, value_words,
+};
 use cif_starts::{StartLines, start_word};
 use cif_stimulus::Stimulus;
+use cif_writes::write_word;
 use std::alloc::Global;
 
 // ---- at the start
@@ -100,4 +106,35 @@ pub fn evaluate_memory(
         marks,
     );
     Ok(())
+}
+
+// ---- after a cycle
+
+/// What a memory stores next, where `values` and `taints` are those of the net bits, and `prior` is what it stores.
+pub fn next_memory_state(
+    alloc: Global,
+    netlist: &Netlist,
+    number: u32,
+    values: &[bool],
+    taints: &[bool],
+    prior: StateRef,
+) -> Result<CellState, NoMemory>
+    requires number { number < length (netlist_of netlist.now).cells }
+    requires role { role_at (netlist_of netlist.now) number ≡ Role.MemoryBlock }
+    requires value { length prior.value.now ≡ state_bits (cell_at (netlist_of netlist.now) number) }
+    requires taint { length prior.taint.now ≡ state_bits (cell_at (netlist_of netlist.now) number) }
+    ensures value { IfOk result (λ s. s.value ≡ stored_by
+        (role_at (netlist_of netlist.now) number) (cell_at (netlist_of netlist.now) number)
+        (bit values.now) prior.entry.value.now) }
+    ensures taint { IfOk result (λ s. s.taint ≡ taint_stored_by
+        (role_at (netlist_of netlist.now) number) (cell_at (netlist_of netlist.now) number)
+        (bit values.now) (bit taints.now) prior.entry.value.now prior.entry.taint.now) }
+    ensures flag { IfOk result (λ s. s.flag ≡ flag_by
+        (role_at (netlist_of netlist.now) number) (cell_at (netlist_of netlist.now) number)
+        (bit values.now) (bit taints.now) prior.entry.flag) }
+{
+    let cell = &netlist.cells()[number as usize];
+    let operands = value_words(alloc, values, cell)?;
+    let operand_taints = taint_words(alloc, taints, cell)?;
+    next_memory(alloc, cell, &operands, &operand_taints, prior)
 }

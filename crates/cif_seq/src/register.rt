@@ -1,7 +1,12 @@
-// Registers: what they start with, and what those with asynchronous reset show.
-ghost use Rattle.std.specs.Prelude.{◌≡◌, ◌<◌, false, length, IfOk};
+// Registers: what they start with, what those with asynchronous reset show, and what they store next.
+ghost use Rattle.std.specs.Prelude.{true, ◌≡◌, ◌<◌, false, length, IfOk};
 ghost use Rattle.cif_defs.specs.Words.{word};
-ghost use Rattle.cif_defs.specs.Netlist.{role_at};
+ghost use Rattle.cif_defs.specs.Netlist.{cell_at, role_at};
+ghost use Rattle.cif_defs.specs.Cells.{state_bits};
+ghost use Rattle.cif_defs.specs.Run.{stored_by};
+ghost use Rattle.cif_defs.specs.TaintRun.{flag_by, taint_stored_by};
+ghost use Rattle.cif_defs.specs.Words.{bit};
+ghost use Rattle.cif_defs.specs.Kinds.{is_register};
 ghost use Rattle.cif_defs.specs.Stimulus.{is_released, start_at};
 ghost use Rattle.cif_defs.specs.Accepted.{netlist_of};
 ghost use Rattle.cif_starts.specs.Starts.{IsTableOf};
@@ -11,12 +16,12 @@ ghost use Rattle.cif_seq.specs.Stored.{IsStored};
 ghost use Rattle.cif_shown.specs.Evaluates.{EvaluatesValues, EvaluatesTaints};
 
 use crate::case::Case;
-use crate::write::write_shown;
 use cif_bits::NoMemory;
 use cif_cells::{Netlist, Role};
-use cif_cycle::{CellState, ShownBits, StateRef, StateWord, StoredWords};
+use cif_cycle::{CellState, ShownBits, StateRef, StateWord, StoredWords, next_register};
 use cif_starts::{StartLines, start_word};
 use cif_stimulus::Stimulus;
+use cif_writes::write_shown;
 use std::alloc::Global;
 
 // ---- at the start
@@ -82,4 +87,33 @@ pub fn evaluate_register(
     let released = case.released();
     let targets = cell.output(0);
     write_shown(readers, released, targets, &shown, values, taints, marks);
+}
+
+// ---- after a cycle
+
+/// What a register stores next, where `values` and `taints` are those of the net bits, and `prior` is what it stores.
+pub fn next_register_state(
+    alloc: Global,
+    netlist: &Netlist,
+    number: u32,
+    values: &[bool],
+    taints: &[bool],
+    prior: StateRef,
+) -> Result<CellState, NoMemory>
+    requires number { number < length (netlist_of netlist.now).cells }
+    requires role { is_register (role_at (netlist_of netlist.now) number) ≡ true }
+    requires value { length prior.value.now ≡ state_bits (cell_at (netlist_of netlist.now) number) }
+    requires taint { length prior.taint.now ≡ state_bits (cell_at (netlist_of netlist.now) number) }
+    ensures value { IfOk result (λ s. s.value ≡ stored_by
+        (role_at (netlist_of netlist.now) number) (cell_at (netlist_of netlist.now) number)
+        (bit values.now) prior.entry.value.now) }
+    ensures taint { IfOk result (λ s. s.taint ≡ taint_stored_by
+        (role_at (netlist_of netlist.now) number) (cell_at (netlist_of netlist.now) number)
+        (bit values.now) (bit taints.now) prior.entry.value.now prior.entry.taint.now) }
+    ensures flag { IfOk result (λ s. s.flag ≡ flag_by
+        (role_at (netlist_of netlist.now) number) (cell_at (netlist_of netlist.now) number)
+        (bit values.now) (bit taints.now) prior.entry.flag) }
+{
+    let cell = &netlist.cells()[number as usize];
+    Ok(next_register(alloc, cell, values, taints, prior)?)
 }

@@ -6,7 +6,7 @@ ghost use Rattle.cif_defs.specs.Netlist.{cell_at, role_at};
 ghost use Rattle.cif_defs.specs.Loop.{is_passing};
 ghost use Rattle.cif_defs.specs.Stimulus.{is_released, start_at};
 ghost use Rattle.cif_defs.specs.Run.{state, stored_by};
-ghost use Rattle.cif_defs.specs.TaintRun.{operand_taints, flag_by, taint_stored_by};
+ghost use Rattle.cif_defs.specs.TaintRun.{flag_by, taint_stored_by};
 ghost use Rattle.cif_readers.specs.Reads.{Notes};
 ghost use Rattle.cif_seq.specs.Cases.{net_of};
 ghost use Rattle.cif_seq.specs.Stored.{IsStored};
@@ -16,14 +16,11 @@ ghost use Rattle.cif_starts.specs.Starts.{IsTableOf};
 
 use crate::case::Case;
 use crate::combinational::evaluate_combinational;
-use crate::memory::{evaluate_memory, start_memory};
-use crate::register::{evaluate_register, start_register};
+use crate::memory::{evaluate_memory, next_memory_state, start_memory};
+use crate::register::{evaluate_register, next_register_state, start_register};
 use cif_bits::NoMemory;
 use cif_cells::{Netlist, Role, table};
-use cif_cycle::{
-    CellState, StateRef, StateWord, StoredWords, next_memory, next_register, taint_words,
-    value_words,
-};
+use cif_cycle::{CellState, StateRef, StateWord, StoredWords};
 use cif_starts::StartLines;
 use cif_stimulus::Stimulus;
 use std::alloc::Global;
@@ -142,13 +139,9 @@ pub fn next_state(
     let cell = &netlist.cells()[number as usize];
     match table::role(cell.kind()) {
         Role::PlainRegister | Role::ResetRegister => {
-            next_register(alloc, cell, values, taints, prior)
+            next_register_state(alloc, netlist, number, values, taints, prior)
         }
-        Role::MemoryBlock => {
-            let operands = value_words(alloc, values, cell)?;
-            let operand_taints = taint_words(alloc, taints, cell)?;
-            next_memory(alloc, cell, &operands, &operand_taints, prior)
-        }
+        Role::MemoryBlock => next_memory_state(alloc, netlist, number, values, taints, prior),
         Role::Combinational | Role::CarriedOver => Ok(no_state(alloc, prior.flag)),
     }
 }

@@ -8,7 +8,7 @@ use Rattle.cif_defs.specs.Stimulus.{is_released}
 use Rattle.word_numbers.specs.HeldWords.{words_held}
 use Rattle.cif_seq.specs.Cases.{net_of}
 use Rattle.cif_seq.proofs.Found.{outputs_taints_found, outputs_values_found}
-use Rattle.cif_seq.proofs.HeldOutputs.{given_taints, given_values}
+use Rattle.cif_seq.proofs.NarrowGiven.{given_taints, given_values}
 use Rattle.cif_seq.proofs.combinational.evaluate_narrow.Goals as goal
 
 pub returns-clause-values : goal.returns-clause-values

@@ -2,7 +2,7 @@
 use Rattle.std.specs.Prelude.{ℕ, zero, suc, ◌+◌, ◌<◌, ◌≡◌, ◌≢◌, Bool, false, List, [], ◌∷◌, length, get_or, drop, Option, Some, None}
 use Rattle.std.proofs.Common.{arith, ap, sym, ◌∙◌, refl, add-one, get_or-set_same, get_or-set_other, length-set}
 use Rattle.cif_defs.specs.Words.{Word, bit}
-use Rattle.cif_seq.specs.Writes.{cleared, put, put_word, put_words}
+use Rattle.cif_writes.specs.Writes.{cleared, put, put_word, put_words}
 
 -- ---- one bit
 

@@ -7,7 +7,7 @@ ghost use Rattle.word_numbers.specs.NarrowCells.{AreWithin128};
 ghost use Rattle.cif_cycle.specs.ShownBits.{shown_taints, shown_values};
 ghost use Rattle.cif_readers.specs.Reads.{Notes};
 ghost use Rattle.cif_readers.specs.Tables.{AreReaders};
-ghost use Rattle.cif_seq.specs.Writes.{put, put_word, put_words};
+ghost use Rattle.cif_writes.specs.Writes.{put, put_word, put_words};
 
 use cif_bits::Bits;
 use cif_cells::{NetBit, Targets};

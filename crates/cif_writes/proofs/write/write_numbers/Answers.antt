@@ -2,9 +2,9 @@ use Rattle.std.proofs.Common.{◌∙◌, ◌≡◌, [], arith, get_or, length, m
 use Rattle.std.proofs.lemmas.List.{get_or_default}
 use Rattle.cif_readers.proofs.NoteLaws.{notes_join}
 use Rattle.word_numbers.specs.HeldWords.{words_held}
-use Rattle.cif_seq.proofs.HeldOutputs.{held_output, narrow_output}
-use Rattle.cif_seq.proofs.PutWords.{put_words_next}
-use Rattle.cif_seq.proofs.write.write_numbers.Goals as goal
+use Rattle.cif_writes.proofs.HeldOutputs.{held_output, narrow_output}
+use Rattle.cif_writes.proofs.PutWords.{put_words_next}
+use Rattle.cif_writes.proofs.write.write_numbers.Goals as goal
 
 pub write_number-requires-clause-few : goal.write_number-requires-clause-few
 write_number-requires-clause-few c = narrow_output c.args.outputs.now c.loop-port.port _ c.requires.narrow (c.items.ensures ∙ c.index-outputs-port.is ∙ get_or_default c.args.outputs.now c.loop-port.port c.index-outputs-port.result [] c.loop-port-test.true)

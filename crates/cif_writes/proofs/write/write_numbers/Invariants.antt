@@ -3,8 +3,8 @@ use Rattle.cif_defs.specs.Netlist.{Netlist}
 use Rattle.cif_readers.specs.Reads.{Notes}
 use Rattle.cif_readers.specs.Tables.{AreReaders}
 use Rattle.word_numbers.specs.HeldWords.{words_held}
-use Rattle.cif_seq.specs.Writes.{put_words}
-use Rattle.cif_seq.proofs.write.write_numbers.Given as goal
+use Rattle.cif_writes.specs.Writes.{put_words}
+use Rattle.cif_writes.proofs.write.write_numbers.Given as goal
 
 abbrev pub invariant-loop-port : goal.invariant-loop-port
 invariant-loop-port l = record {

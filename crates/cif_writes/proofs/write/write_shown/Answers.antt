@@ -3,8 +3,8 @@ use Rattle.cif_defs.proofs.WordLaws.{bit-word}
 use Rattle.cif_register_bits.specs.declared.tainted_bit.TaintedBit.{TaintedBit}
 use Rattle.cif_cycle.specs.ShownBits.{shown_at, shown_taints, shown_values}
 use Rattle.cif_readers.proofs.NoteLaws.{notes_join}
-use Rattle.cif_seq.proofs.PutWords.{put_word_next}
-use Rattle.cif_seq.proofs.write.write_shown.Goals as goal
+use Rattle.cif_writes.proofs.PutWords.{put_word_next}
+use Rattle.cif_writes.proofs.write.write_shown.Goals as goal
 
 pub loop-i-preserved : goal.loop-i-preserved
 loop-i-preserved c =

@@ -2,8 +2,8 @@ use Rattle.std.proofs.Common.{◌∙◌, [], arith, false, length, sym}
 use Rattle.cif_defs.specs.Words.{word_of}
 use Rattle.cif_readers.proofs.NoteLaws.{notes_join}
 use Rattle.word_numbers.proofs.Digits.{bit-held_by}
-use Rattle.cif_seq.proofs.PutWords.{put_word_next}
-use Rattle.cif_seq.proofs.write.write_number.Goals as goal
+use Rattle.cif_writes.proofs.PutWords.{put_word_next}
+use Rattle.cif_writes.proofs.write.write_number.Goals as goal
 
 pub loop-i-preserved : goal.loop-i-preserved
 loop-i-preserved c =

@@ -1,7 +1,7 @@
 use Rattle.std.proofs.Common.{◌∙◌, [], arith, sym}
 use Rattle.cif_readers.proofs.NoteLaws.{notes_join}
-use Rattle.cif_seq.proofs.PutWords.{put_word_next}
-use Rattle.cif_seq.proofs.write.write_word.Goals as goal
+use Rattle.cif_writes.proofs.PutWords.{put_word_next}
+use Rattle.cif_writes.proofs.write.write_word.Goals as goal
 
 pub loop-i-preserved : goal.loop-i-preserved
 loop-i-preserved c = record {

@@ -1,8 +1,8 @@
 use Rattle.std.proofs.Common.{◌∙◌, ◌≡◌, [], arith, get_or, sym}
 use Rattle.std.proofs.lemmas.List.{get_or_default}
 use Rattle.cif_readers.proofs.NoteLaws.{notes_join}
-use Rattle.cif_seq.proofs.PutWords.{put_words_next}
-use Rattle.cif_seq.proofs.write.write_words.Goals as goal
+use Rattle.cif_writes.proofs.PutWords.{put_words_next}
+use Rattle.cif_writes.proofs.write.write_words.Goals as goal
 
 pub loop-port-preserved : goal.loop-port-preserved
 loop-port-preserved c =
