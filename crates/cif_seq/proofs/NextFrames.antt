@@ -18,8 +18,9 @@ use Rattle.cif_defs.proofs.WordLaws.{le_or_lt}
 use Rattle.cif_cycle.specs.declared.stored.StoredWords.{StoredWords}
 use Rattle.cif_inputs.specs.declared.inputs.Inputs.{Inputs}
 use Rattle.cif_readers.specs.Reads.{Notes}
-use Rattle.cif_shown.specs.Shown.{AreKept, Follows, MayBegin, Shows, WillRest}
+use Rattle.cif_shown.specs.Shown.{AreKept, AreKeptWhere, Follows, Given, MayBegin, Shows, WillRest, all_bits}
 use Rattle.cif_shown.proofs.Begun.{begins_again, begins_clear}
+use Rattle.cif_shown.proofs.Covering.{order_covers}
 use Rattle.cif_shown.proofs.Resting.{resting_after}
 use Rattle.cif_seq.specs.Cases.{CaseOf, net_of}
 use Rattle.cif_seq.specs.GivenAt.{given_at, given_by}
@@ -35,9 +36,9 @@ clear_bit n b xs e = ap (λ (ys : List Bool). bit ys b) e ∙ elim (le_or_lt b n
 ]
 
 pub begins_first : (c : CaseOf) (raw : Raw) (stored : StoredWords) (inputs : Inputs) (values taints marks : List Bool) → IsWired (net_of c) → IsLevelled (net_of c) c.order → raw ≡ c.raw → values ≡ replicate (length (netlist_of raw).drivers) false
-    → taints ≡ replicate (length (netlist_of raw).drivers) false → marks ≡ replicate (length (netlist_of raw).cells) true → MayBegin (net_of c) (given_at c stored inputs) c.order marks values taints
+    → taints ≡ replicate (length (netlist_of raw).drivers) false → marks ≡ replicate (length (netlist_of raw).cells) true → MayBegin all_bits (net_of c) (given_at c stored inputs) c.order marks values taints
 begins_first c raw stored inputs values taints marks w o e ev et em =
-    begins_clear (net_of c) (given_at c stored inputs) c.order values taints marks w o (λ b. clear_bit _ b values ev) (λ b. clear_bit _ b taints et)
+    begins_clear (net_of c) (given_at c stored inputs) c.order c.order all_bits values taints marks w (order_covers (net_of c) c.order o) (λ b. clear_bit _ b values ev) (λ b. clear_bit _ b taints et)
     (λ k l. ap (λ (xs : List Bool). bit xs k) (em ∙ ap (λ (x : Raw). replicate (length (netlist_of x).cells) true) e) ∙ get_or-replicate (length (net_of c).cells) k true false l)
 
 pub rests_first : (c : CaseOf) (raw other : Raw) (stored : StoredWords) (values taints marks : List Bool) → raw ≡ c.raw → other ≡ c.raw → IsStored (netlist_of other) stored.values.items stored.taints.items stored.flags.items → marks ≡ replicate (length (netlist_of raw).cells) true
@@ -57,12 +58,16 @@ kept_given c prior prior_taints prior_flags next next_taints next_flags marks i 
   flag = (h x clear).flag;
 }
 
+kept_where : (n : Netlist) (covered : ℕ → Bool) (before after : Given) (marks : List Bool) → AreKept before after marks → AreKeptWhere covered n before after marks
+unfolding AreKept AreKeptWhere
+kept_where n covered before after marks h = λ b c k is clear. h c clear
+
 pub begins_next : (c : CaseOf) (i j : ℕ → ℕ → Bool) (values taints moved begun begun_taints begun_marks : List Bool) (prior next : StoredWords) (inputs : Inputs) → IsWired (net_of c) → IsLevelled (net_of c) c.order
     → ((b : ℕ) → Shows (net_of c) (given_by c prior.values.items prior.taints.items prior.flags.items i j) values taints b) → AreKept (given_of prior) (given_of next) moved → begun ≡ values → begun_taints ≡ taints → begun_marks ≡ moved
-    → MayBegin (net_of c) (given_at c next inputs) c.order begun_marks begun begun_taints
+    → MayBegin all_bits (net_of c) (given_at c next inputs) c.order begun_marks begun begun_taints
 begins_next c i j values taints moved begun begun_taints begun_marks prior next inputs w o h k ev et em =
-    rw (ev, et, em) (begins_again (net_of c) (given_by c prior.values.items prior.taints.items prior.flags.items i j) (given_at c next inputs) c.order values taints moved w o (λ b. refl)
-    (kept_given c prior.values.items prior.taints.items prior.flags.items next.values.items next.taints.items next.flags.items moved i j _ _ k) h)
+    rw (ev, et, em) (begins_again (net_of c) (given_by c prior.values.items prior.taints.items prior.flags.items i j) (given_at c next inputs) c.order c.order all_bits values taints moved w (order_covers (net_of c) c.order o) (λ b. refl)
+    (kept_where (net_of c) all_bits _ _ moved (kept_given c prior.values.items prior.taints.items prior.flags.items next.values.items next.taints.items next.flags.items moved i j _ _ k)) (λ b _. h b))
 
 past_role : (n : Netlist) (c : ℕ) → length n.cells ≤ c → role_at n c ≡ Rattle.cif_defs.specs.declared.kinds.Role.TheVariants.CarriedOver
 past_role n c l = ap (λ (x : Cell). role_of x.kind) (get_or_past n.cells c no_cell l)

@@ -15,7 +15,8 @@ use Rattle.cif_defs.specs.declared.kinds.Kind.TheVariants.{Adff, Adffe, Dff, Dff
 use Rattle.cif_defs.specs.declared.kinds.Role.{Role}
 use Rattle.cif_defs.specs.declared.kinds.Role.TheVariants.{CarriedOver, Combinational, MemoryBlock, PlainRegister, ResetRegister}
 use Rattle.cif_defs.proofs.WordLaws.{length-word}
-use Rattle.cif_seq.specs.Stored.{IsStored}
+use Rattle.cif_defs.proofs.Orders.{in_range}
+use Rattle.cif_seq.specs.Stored.{ArePassing, AreStored, IsStored, IsStoredAt}
 
 length-next : (k : Kind) (c : Cell) (us : List Word) (stored : Word) → length (next_by k c us stored) ≡ width c
 unfolding next_by
@@ -88,3 +89,16 @@ is_stored n s k values taints flags e f g = record {
 
 pub frame_stored : (n : Netlist) (s : Stimulus) (k : ℕ) (values taints : List Bool) (stored stored_taints : List Word) (flags : List Bool) → IsFrame n s k values taints stored stored_taints flags → IsStored n stored stored_taints flags
 frame_stored n s k values taints stored stored_taints flags h = is_stored n s k stored stored_taints flags h.state_values h.state_taints h.memory_flags
+
+-- so it is for each cell of a list of passing cells
+pub stored_at : (n : Netlist) (values taints : List Word) (flags : List Bool) (c : ℕ) → c < length n.cells → IsStored n values taints flags → IsStoredAt n values taints flags c
+stored_at n values taints flags c l h = record {
+  value_place = (let z : length values ≡ length n.cells = h.as_many_values in omega arith);
+  taint_place = (let z : length taints ≡ length n.cells = h.as_many_taints in omega arith);
+  flag_place = (let z : length flags ≡ length n.cells = h.as_many_flags in omega arith);
+  value_width = h.value_width c l;
+  taint_width = h.taint_width c l;
+}
+
+pub all_stored : (n : Netlist) (values taints : List Word) (flags : List Bool) (cells : List ℕ) → ArePassing n cells → IsStored n values taints flags → AreStored n values taints flags cells
+all_stored n values taints flags cells p h = λ i l. stored_at n values taints flags (get_or cells i 0) (in_range n (get_or cells i 0) (p i l)) h

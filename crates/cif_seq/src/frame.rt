@@ -10,7 +10,7 @@ ghost use Rattle.cif_seq.specs.FrameView.{HoldsFrame};
 ghost use Rattle.cif_seq.specs.GivenAt.{given_at};
 ghost use Rattle.cif_seq.specs.Inputs.{StandsAt};
 ghost use Rattle.cif_seq.specs.Stored.{given_of};
-ghost use Rattle.cif_shown.specs.Shown.{MayBegin, WillRest};
+ghost use Rattle.cif_shown.specs.Shown.{MayBegin, WillRest, all_bits};
 ghost use Rattle.cif_defs.specs.Accepted.{netlist_of};
 
 use crate::case::Case;
@@ -67,22 +67,14 @@ fn frame_with(
     requires as_many_values { length begun.values.items ≡ length (net_of case.now.value).drivers }
     requires as_many_taints { length begun.taints.items ≡ length (net_of case.now.value).drivers }
     requires as_many_marks { length begun.marks.items ≡ length (net_of case.now.value).cells }
-    requires begins { MayBegin (net_of case.now.value) (given_at case.now.value stored inputs) case.now.value.order begun.marks.items begun.values.items begun.taints.items }
+    requires begins { MayBegin all_bits (net_of case.now.value) (given_at case.now.value stored inputs) case.now.value.order begun.marks.items begun.values.items begun.taints.items }
     requires resting { WillRest (net_of case.now.value) (given_of stored) begun.values.items begun.taints.items begun.marks.items }
     ensures { IfOk result (λ f. f ≡ frame_of case.now.value cycle) }
 {
     let case = Arc::try_clone(case)?;
-    let _levels = case.levels();
-    let bits = settled(alloc, &case, &stored, &inputs, begun)?;
-    Ok(Frame {
-        case,
-        cycle,
-        values: bits.values,
-        taints: bits.taints,
-        stored,
-        inputs,
-        due: bits.marks,
-    })
+    let levels = case.levels();
+    let bits = settled(alloc, &case, levels.items(), &stored, &inputs, begun)?;
+    Ok(Frame::of(case, cycle, stored, inputs, bits))
 }
 
 /// Net bits that are all 0 and untainted, where all cells are marked.
@@ -188,7 +180,66 @@ pub fn following_frame(alloc: Global, frame: Frame) -> Result<Frame, NoMemory>
     frame_after(alloc, &case, cycle, stored, &inputs, bits)
 }
 
+/// What a frame holds, lent.
+#[derive(Clone, Copy, Drop)]
+pub struct Held<'a> {
+    /// The values, by net bit.
+    pub values: &'a [bool],
+    /// The taints, by net bit.
+    pub taints: &'a [bool],
+    /// What the cells store.
+    pub stored: &'a StoredWords,
+    /// The cursor over the stimulus, which stands at the frame's cycle.
+    pub inputs: &'a Inputs,
+    /// For each cell whether it may store something else next.
+    pub due: &'a [bool],
+}
+
 impl Frame {
+    /// The frame of a cycle of a case that holds these. That they are what the cycle has by definition is the condition. It
+    /// takes no memory.
+    pub fn of(
+        case: Arc<Case>,
+        cycle: u64,
+        stored: StoredWords,
+        inputs: Inputs,
+        bits: NetBits,
+    ) -> Frame
+        requires { HoldsFrame case.value cycle bits.values.items bits.taints.items
+            stored.values.items stored.taints.items stored.flags.items bits.marks.items inputs }
+        ensures { result ≡ frame_of case.value cycle }
+    {
+        let NetBits {
+            values,
+            taints,
+            marks,
+        } = bits;
+        Frame {
+            case,
+            cycle,
+            values,
+            taints,
+            stored,
+            inputs,
+            due: marks,
+        }
+    }
+
+    /// What it holds.
+    pub fn held(&self) -> Held<'_>
+        ensures { HoldsFrame self.now.case self.now.cycle result.values.now result.taints.now
+            result.stored.now.values.items result.stored.now.taints.items result.stored.now.flags.items
+            result.due.now result.inputs.now }
+    {
+        Held {
+            values: &self.values,
+            taints: &self.taints,
+            stored: &self.stored,
+            inputs: &self.inputs,
+            due: &self.due,
+        }
+    }
+
     /// Its case.
     pub fn case(&self) -> &Arc<Case>
         ensures { result.now.value ≡ self.now.case }

@@ -14,4 +14,8 @@ mod state;
 
 pub use case::Case;
 pub use cif_rules::taint_of;
-pub use frame::{Frame, first_frame, following_frame, next_frame};
+pub use frame::{Frame, Held, first_frame, following_frame, next_frame};
+pub use inputs::{first_inputs, next_inputs};
+pub use roles::{next_state, start_state};
+pub use settle::{NetBits, settled};
+pub use state::is_known_same;

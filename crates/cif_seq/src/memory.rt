@@ -10,7 +10,7 @@ ghost use Rattle.cif_defs.specs.Accepted.{netlist_of};
 ghost use Rattle.cif_starts.specs.Starts.{IsTableOf};
 ghost use Rattle.cif_readers.specs.Reads.{Notes};
 ghost use Rattle.cif_seq.specs.Cases.{net_of};
-ghost use Rattle.cif_seq.specs.Stored.{IsStored};
+ghost use Rattle.cif_seq.specs.Stored.{IsStoredAt};
 ghost use Rattle.cif_shown.specs.Evaluates.{EvaluatesValues, EvaluatesTaints};
 
 use crate::case::Case;
@@ -65,7 +65,7 @@ pub fn evaluate_memory(
 ) -> Result<(), NoMemory>
     requires inside { number < length (net_of case.now).cells }
     requires role { role_at (net_of case.now) number ≡ Role.MemoryBlock }
-    requires stored { IsStored (net_of case.now) stored.now.values.items stored.now.taints.items stored.now.flags.items }
+    requires stored { IsStoredAt (net_of case.now) stored.now.values.items stored.now.taints.items stored.now.flags.items number }
     requires as_many_values { length values.old ≡ length (net_of case.now).drivers }
     requires as_many_taints { length taints.old ≡ length (net_of case.now).drivers }
     requires as_many_marks { length marks.old ≡ length (net_of case.now).cells }

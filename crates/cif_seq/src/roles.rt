@@ -9,7 +9,7 @@ ghost use Rattle.cif_defs.specs.Run.{state, stored_by};
 ghost use Rattle.cif_defs.specs.TaintRun.{flag_by, taint_stored_by};
 ghost use Rattle.cif_readers.specs.Reads.{Notes};
 ghost use Rattle.cif_seq.specs.Cases.{net_of};
-ghost use Rattle.cif_seq.specs.Stored.{IsStored};
+ghost use Rattle.cif_seq.specs.Stored.{IsStoredAt};
 ghost use Rattle.cif_shown.specs.Evaluates.{EvaluatesValues, EvaluatesTaints};
 ghost use Rattle.cif_defs.specs.Cells.{state_bits};
 ghost use Rattle.cif_starts.specs.Starts.{IsTableOf};
@@ -81,7 +81,7 @@ pub fn evaluate_cell(
 ) -> Result<(), NoMemory>
     requires inside { number < length (net_of case.now).cells }
     requires passing { is_passing (role_at (net_of case.now) number) ≡ true }
-    requires stored { IsStored (net_of case.now) stored.now.values.items stored.now.taints.items stored.now.flags.items }
+    requires stored { IsStoredAt (net_of case.now) stored.now.values.items stored.now.taints.items stored.now.flags.items number }
     requires as_many_values { length values.old ≡ length (net_of case.now).drivers }
     requires as_many_taints { length taints.old ≡ length (net_of case.now).drivers }
     requires as_many_marks { length marks.old ≡ length (net_of case.now).cells }

@@ -1,16 +1,18 @@
-// The settled net bits of a cycle: the sources are set, and then the marked cells are evaluated in a levelled order.
+// Settled net bits of a cycle: the sources are set, and then the marked ones of some cells are evaluated, as they stand in a
+// levelled order.
 ghost use Rattle.std.specs.Prelude.{◌≡◌, ◌+◌, ◌<◌, ℕ, Bool, List, true, false, get_or, length, IfOk, IsOk, if◌then◌else◌};
 ghost use Rattle.cif_defs.specs.Words.{bit, word, operand};
 ghost use Rattle.cif_defs.specs.Accepted.{netlist_of};
-ghost use Rattle.cif_defs.specs.Netlist.{driver_of};
+ghost use Rattle.cif_defs.specs.Loop.{is_passing};
+ghost use Rattle.cif_defs.specs.Netlist.{driver_of, role_at};
 ghost use Rattle.cif_defs.specs.Run.{driver_value_at_depth_0, register_at_depth_0, input_value};
 ghost use Rattle.cif_defs.specs.TaintRun.{driver_taint_at_depth_0, input_taint};
 ghost use Rattle.cif_inputs.specs.Cursor.{cycle_of};
 ghost use Rattle.cif_readers.specs.Reads.{Notes};
 ghost use Rattle.cif_seq.specs.Cases.{net_of};
 ghost use Rattle.cif_seq.specs.Inputs.{StandsAt};
-ghost use Rattle.cif_seq.specs.Stored.{IsStored};
-ghost use Rattle.cif_shown.specs.Shown.{AreBegun, AreShown, AreSources, MayBegin, Shows, is_open};
+ghost use Rattle.cif_seq.specs.Stored.{ArePassing, AreStored, IsStoredAt};
+ghost use Rattle.cif_shown.specs.Shown.{AreBegun, AreShown, AreSources, CoverBits, MayBegin, Shows, is_open};
 ghost use Rattle.cif_seq.specs.GivenAt.{given_at, given_with};
 
 use crate::case::Case;
@@ -26,61 +28,64 @@ use std::alloc::Global;
 
 // ---- marked cells
 
-/// Evaluates the cell at a place of the order, where it is marked.
-fn evaluate_place(
+/// Evaluates a cell, where it is marked.
+fn evaluate_marked_cell(
     alloc: Global,
     case: &Case,
-    place: usize,
+    number: u32,
     stored: &StoredWords,
     values: &mut [bool],
     taints: &mut [bool],
     marks: &mut [bool],
 ) -> Result<(), NoMemory>
-    requires inside { place < length case.now.order }
-    requires stored { IsStored (net_of case.now) stored.now.values.items stored.now.taints.items stored.now.flags.items }
+    requires passing { is_passing (role_at (net_of case.now) number) ≡ true }
+    requires stored { IsStoredAt (net_of case.now) stored.now.values.items stored.now.taints.items stored.now.flags.items number }
     requires as_many_values { length values.old ≡ length (net_of case.now).drivers }
     requires as_many_taints { length taints.old ≡ length (net_of case.now).drivers }
     requires as_many_marks { length marks.old ≡ length (net_of case.now).cells }
-    ensures shown { IsOk result → (input taint_input : ℕ → ℕ → Bool)
-        → AreShown (net_of case.now) (given_with case.now stored.now input taint_input) case.now.order place marks.old values.old taints.old
-        → AreShown (net_of case.now) (given_with case.now stored.now input taint_input) case.now.order (place + 1) marks.new values.new taints.new }
+    ensures shown { IsOk result → (covered : ℕ → Bool) (cells : List ℕ) (place : ℕ) (input taint_input : ℕ → ℕ → Bool)
+        → CoverBits (net_of case.now) case.now.order cells covered → place < length cells → number ≡ get_or cells place 0
+        → AreShown covered (net_of case.now) (given_with case.now stored.now input taint_input) cells place marks.old values.old taints.old
+        → AreShown covered (net_of case.now) (given_with case.now stored.now input taint_input) cells (place + 1) marks.new values.new taints.new }
     ensures notes { IsOk result → Notes (net_of case.now) values.old taints.old values.new taints.new marks.old marks.new }
     ensures values_length { length values.new ≡ length values.old }
     ensures taints_length { length taints.new ≡ length taints.old }
     ensures marks_length { length marks.new ≡ length marks.old }
 {
-    let order = case.levels().items();
-    let number = order[place];
+    let _levels = case.levels();
     if !bit_of(marks, number as usize) {
         return Ok(());
     }
     evaluate_cell(alloc, case, number, stored, values, taints, marks)
 }
 
-/// Evaluates the marked cells, one after another; each cell that reads a bit that changes is marked too.
+/// Evaluates the marked ones of some cells, one after another; each cell that reads a bit that changes is marked too.
 fn evaluate_marked(
     alloc: Global,
     case: &Case,
+    cells: &[u32],
     stored: &StoredWords,
     values: &mut [bool],
     taints: &mut [bool],
     marks: &mut [bool],
 ) -> Result<(), NoMemory>
-    requires stored { IsStored (net_of case.now) stored.now.values.items stored.now.taints.items stored.now.flags.items }
+    requires passing { ArePassing (net_of case.now) cells.now }
+    requires stored { AreStored (net_of case.now) stored.now.values.items stored.now.taints.items stored.now.flags.items cells.now }
     requires as_many_values { length values.old ≡ length (net_of case.now).drivers }
     requires as_many_taints { length taints.old ≡ length (net_of case.now).drivers }
     requires as_many_marks { length marks.old ≡ length (net_of case.now).cells }
-    ensures shown { IsOk result → (input taint_input : ℕ → ℕ → Bool)
-        → AreShown (net_of case.now) (given_with case.now stored.now input taint_input) case.now.order 0 marks.old values.old taints.old
-        → AreShown (net_of case.now) (given_with case.now stored.now input taint_input) case.now.order (length case.now.order) marks.new values.new taints.new }
+    ensures shown { IsOk result → (covered : ℕ → Bool) (input taint_input : ℕ → ℕ → Bool)
+        → CoverBits (net_of case.now) case.now.order cells.now covered
+        → AreShown covered (net_of case.now) (given_with case.now stored.now input taint_input) cells.now 0 marks.old values.old taints.old
+        → AreShown covered (net_of case.now) (given_with case.now stored.now input taint_input) cells.now (length cells.now) marks.new values.new taints.new }
     ensures notes { IsOk result → Notes (net_of case.now) values.old taints.old values.new taints.new marks.old marks.new }
     ensures values_length { length values.new ≡ length values.old }
     ensures taints_length { length taints.new ≡ length taints.old }
     ensures marks_length { length marks.new ≡ length marks.old }
 {
-    let count = case.levels().items().len();
-    for place in 0..count {
-        evaluate_place(alloc, case, place, stored, values, taints, marks)?;
+    for place in 0..cells.len() {
+        let number = cells[place];
+        evaluate_marked_cell(alloc, case, number, stored, values, taints, marks)?;
     }
     Ok(())
 }
@@ -171,10 +176,11 @@ fn set_source(
     requires as_many_values { length values.old ≡ length (net_of case.now).drivers }
     requires as_many_taints { length taints.old ≡ length (net_of case.now).drivers }
     requires as_many_marks { length marks.old ≡ length (net_of case.now).cells }
-    ensures shown { (sources : List ℕ) (i : ℕ) → AreSources (net_of case.now) sources → i < length sources
-        → net ≡ get_or sources i 0
-        → AreBegun (net_of case.now) (given_at case.now stored.now inputs.now) case.now.order sources i marks.old values.old taints.old
-        → AreBegun (net_of case.now) (given_at case.now stored.now inputs.now) case.now.order sources (i + 1) marks.new values.new taints.new }
+    ensures shown { (covered : ℕ → Bool) (cells sources : List ℕ) (i : ℕ)
+        → CoverBits (net_of case.now) case.now.order cells covered → AreSources (net_of case.now) sources
+        → i < length sources → net ≡ get_or sources i 0
+        → AreBegun covered (net_of case.now) (given_at case.now stored.now inputs.now) cells sources i marks.old values.old taints.old
+        → AreBegun covered (net_of case.now) (given_at case.now stored.now inputs.now) cells sources (i + 1) marks.new values.new taints.new }
     ensures notes { Notes (net_of case.now) values.old taints.old values.new taints.new marks.old marks.new }
     ensures values_length { length values.new ≡ length values.old }
     ensures taints_length { length taints.new ≡ length taints.old }
@@ -205,8 +211,9 @@ fn set_sources(
     requires as_many_values { length values.old ≡ length (net_of case.now).drivers }
     requires as_many_taints { length taints.old ≡ length (net_of case.now).drivers }
     requires as_many_marks { length marks.old ≡ length (net_of case.now).cells }
-    ensures shown { MayBegin (net_of case.now) (given_at case.now stored.now inputs.now) case.now.order marks.old values.old taints.old
-        → AreShown (net_of case.now) (given_at case.now stored.now inputs.now) case.now.order 0 marks.new values.new taints.new }
+    ensures shown { (covered : ℕ → Bool) (cells : List ℕ) → CoverBits (net_of case.now) case.now.order cells covered
+        → MayBegin covered (net_of case.now) (given_at case.now stored.now inputs.now) cells marks.old values.old taints.old
+        → AreShown covered (net_of case.now) (given_at case.now stored.now inputs.now) cells 0 marks.new values.new taints.new }
     ensures notes { Notes (net_of case.now) values.old taints.old values.new taints.new marks.old marks.new }
     ensures values_length { length values.new ≡ length values.old }
     ensures taints_length { length taints.new ≡ length taints.old }
@@ -219,23 +226,26 @@ fn set_sources(
     }
 }
 
-/// Settles the net bits of a cycle in place.
+/// Settles net bits of a cycle in place, by some of the cells.
 fn settle(
     alloc: Global,
     case: &Case,
+    cells: &[u32],
     stored: &StoredWords,
     inputs: &Inputs,
     values: &mut [bool],
     taints: &mut [bool],
     marks: &mut [bool],
 ) -> Result<(), NoMemory>
-    requires stored { IsStored (net_of case.now) stored.now.values.items stored.now.taints.items stored.now.flags.items }
+    requires passing { ArePassing (net_of case.now) cells.now }
+    requires stored { AreStored (net_of case.now) stored.now.values.items stored.now.taints.items stored.now.flags.items cells.now }
     requires at { StandsAt (net_of case.now) case.now.stimulus (cycle_of inputs.now) inputs.now }
     requires as_many_values { length values.old ≡ length (net_of case.now).drivers }
     requires as_many_taints { length taints.old ≡ length (net_of case.now).drivers }
     requires as_many_marks { length marks.old ≡ length (net_of case.now).cells }
-    ensures shown { IsOk result → MayBegin (net_of case.now) (given_at case.now stored.now inputs.now) case.now.order marks.old values.old taints.old
-        → (b : ℕ) → Shows (net_of case.now) (given_at case.now stored.now inputs.now) values.new taints.new b }
+    ensures shown { IsOk result → (covered : ℕ → Bool) → CoverBits (net_of case.now) case.now.order cells.now covered
+        → MayBegin covered (net_of case.now) (given_at case.now stored.now inputs.now) cells.now marks.old values.old taints.old
+        → (b : ℕ) → covered b ≡ true → Shows (net_of case.now) (given_at case.now stored.now inputs.now) values.new taints.new b }
     ensures notes { IsOk result → Notes (net_of case.now) values.old taints.old values.new taints.new marks.old marks.new }
     ensures values_length { length values.new ≡ length values.old }
     ensures taints_length { length taints.new ≡ length taints.old }
@@ -243,7 +253,7 @@ fn settle(
 {
     let _levels = case.levels();
     set_sources(case, stored, inputs, values, taints, marks);
-    evaluate_marked(alloc, case, stored, values, taints, marks)
+    evaluate_marked(alloc, case, cells, stored, values, taints, marks)
 }
 
 /// The value and the taint of each net bit, and marks of cells.
@@ -257,23 +267,28 @@ pub struct NetBits {
     pub marks: Vec<bool>,
 }
 
-/// The settled net bits of a cycle, from the words that the cells store, from the inputs at that cycle, and from bits with
-/// which the cycle may begin. The marks say which cells read a bit that changed, or were marked before.
+/// Settled net bits of a cycle, from the words that the cells store, from the inputs at that cycle, and from bits with which
+/// the cycle may begin. Of the cells that are given, which stand as in the levelled order, the marked ones are evaluated: the
+/// bits that they cover are then settled. The marks say which cells read a bit that changed, or were marked before.
+///
+/// A whole frame is settled by all passing cells, and a piece of one by those of a part.
 pub fn settled(
     alloc: Global,
     case: &Case,
+    cells: &[u32],
     stored: &StoredWords,
     inputs: &Inputs,
     begun: NetBits,
 ) -> Result<NetBits, NoMemory>
-    requires stored { IsStored (net_of case.now) stored.now.values.items stored.now.taints.items stored.now.flags.items }
+    requires passing { ArePassing (net_of case.now) cells.now }
+    requires stored { AreStored (net_of case.now) stored.now.values.items stored.now.taints.items stored.now.flags.items cells.now }
     requires at { StandsAt (net_of case.now) case.now.stimulus (cycle_of inputs.now) inputs.now }
     requires as_many_values { length begun.values.items ≡ length (net_of case.now).drivers }
     requires as_many_taints { length begun.taints.items ≡ length (net_of case.now).drivers }
     requires as_many_marks { length begun.marks.items ≡ length (net_of case.now).cells }
-    requires begins { MayBegin (net_of case.now) (given_at case.now stored.now inputs.now) case.now.order begun.marks.items begun.values.items begun.taints.items }
-    ensures shown { IfOk result (λ o. (b : ℕ)
-        → Shows (net_of case.now) (given_at case.now stored.now inputs.now) o.values.items o.taints.items b) }
+    ensures shown { IfOk result (λ o. (covered : ℕ → Bool) → CoverBits (net_of case.now) case.now.order cells.now covered
+        → MayBegin covered (net_of case.now) (given_at case.now stored.now inputs.now) cells.now begun.marks.items begun.values.items begun.taints.items
+        → (b : ℕ) → covered b ≡ true → Shows (net_of case.now) (given_at case.now stored.now inputs.now) o.values.items o.taints.items b) }
     ensures notes { IfOk result (λ o. Notes (net_of case.now) begun.values.items begun.taints.items
         o.values.items o.taints.items begun.marks.items o.marks.items) }
     ensures as_many_values { IfOk result (λ o. length o.values.items ≡ length (net_of case.now).drivers) }
@@ -288,6 +303,7 @@ pub fn settled(
     settle(
         alloc,
         case,
+        cells,
         stored,
         inputs,
         &mut values,

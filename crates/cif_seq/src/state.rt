@@ -50,7 +50,7 @@ pub fn start_words(
 }
 
 /// Whether a cell is known to store the same as before. Words of memories are not compared.
-fn is_known_same(next: &CellState, prior: StateRef) -> bool
+pub fn is_known_same(next: &CellState, prior: StateRef) -> bool
     ensures value { result ≡ true → next.now.value ≡ prior.entry.value.now }
     ensures taint { result ≡ true → next.now.taint ≡ prior.entry.taint.now }
     ensures flag { result ≡ true → next.now.flag ≡ prior.entry.flag }

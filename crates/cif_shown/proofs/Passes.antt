@@ -1,5 +1,5 @@
--- The marked cells of a cycle are evaluated in a levelled order: at each place, each net bit shows what its driver gives or
--- waits for a marked cell that is still to come.
+-- The marked cells of a cycle are evaluated, as they stand in a levelled order: at each place, each covered net bit shows what its
+-- driver gives or waits for a marked cell that is still to come.
 use Rattle.std.specs.Prelude.{ℕ, suc, ◌+◌, ◌<◌, ◌≤◌, ◌≡◌, ◌==◌, ◌⊎◌, Bool, true, false, List, length, get_or, refl}
 use Rattle.std.proofs.Common.{arith, ap, sym, ◌∙◌, cond, inl, inr, subst}
 use Rattle.std.proofs.lemmas.Bool.{eqb-true}
@@ -17,8 +17,9 @@ use Rattle.cif_defs.proofs.Orders.{has_place, operand_rank, place_at, place_in}
 use Rattle.cif_defs.proofs.WordLaws.{le_or_lt}
 use Rattle.cif_readers.specs.Reads.{Notes}
 use Rattle.cif_shown.specs.Evaluates.{EvaluatesTaints, EvaluatesValues}
-use Rattle.cif_shown.specs.Shown.{AreShown, Given, SameAtOperands, Shows, Waits, taint_given, value_given}
+use Rattle.cif_shown.specs.Shown.{AreShown, CoverBits, Given, SameAtOperands, Shows, Waits, taint_given, value_given}
 use Rattle.cif_shown.proofs.ByReads.{counts_passing, same_taint, same_value, still_shows}
+use Rattle.cif_shown.proofs.Covering.{waits_among, waits_in_order}
 
 -- ---- a bit that stays
 
@@ -192,38 +193,53 @@ step_bit n g order i b values taints new_values new_taints marks new_marks false
     still_or_waits n g order (i + 1) b values taints new_values new_taints marks new_marks w o m p (at.value ∙ stays _ _ _ is) (at.taint ∙ stays _ _ _ is) h
 step_bit n g order i b values taints new_values new_taints marks new_marks false w o l m p at is (inr h) = inr (waits_on n order i b values taints new_values new_taints marks new_marks m is h)
 
--- one more cell of the order is evaluated
-pub cell_evaluated : (n : Netlist) (g : Given) (order : List ℕ) (i : ℕ) (values taints new_values new_taints marks new_marks : List Bool) → IsWired n → IsLevelled n order → i < length order
-    → EvaluatesValues n g.stored (get_or order i 0) values new_values → EvaluatesTaints n g.stored values g.state g.released (get_or order i 0) taints new_taints → Notes n values taints new_values new_taints marks new_marks
-    → AreShown n g order i marks values taints → AreShown n g order (i + 1) new_marks new_values new_taints
+widened : (n : Netlist) (g : Given) (order cells : List ℕ) (covered : ℕ → Bool) (i b : ℕ) (values taints marks : List Bool) → IsLevelled n order → CoverBits n order cells covered → Shows n g values taints b ⊎ Waits n cells i marks b
+    → Shows n g values taints b ⊎ Waits n order (place_in order (get_or cells i 0)) marks b
+widened n g order cells covered i b values taints marks o k (inl h) = inl h
+widened n g order cells covered i b values taints marks o k (inr h) = inr (waits_in_order n order cells covered i b marks o k h)
+
+narrowed : (n : Netlist) (g : Given) (order cells : List ℕ) (covered : ℕ → Bool) (i b : ℕ) (values taints marks : List Bool) → IsLevelled n order → CoverBits n order cells covered → i < length cells → covered b ≡ true
+    → Shows n g values taints b ⊎ Waits n order (place_in order (get_or cells i 0) + 1) marks b → Shows n g values taints b ⊎ Waits n cells (i + 1) marks b
+narrowed n g order cells covered i b values taints marks o k l c (inl h) = inl h
+narrowed n g order cells covered i b values taints marks o k l c (inr h) = inr (waits_among n order cells covered i b marks o k l c h)
+
+-- one more of the cells is evaluated
+pub cell_evaluated : (n : Netlist) (g : Given) (order cells : List ℕ) (covered : ℕ → Bool) (i : ℕ) (values taints new_values new_taints marks new_marks : List Bool) → IsWired n → IsLevelled n order → CoverBits n order cells covered → i < length cells
+    → EvaluatesValues n g.stored (get_or cells i 0) values new_values → EvaluatesTaints n g.stored values g.state g.released (get_or cells i 0) taints new_taints → Notes n values taints new_values new_taints marks new_marks
+    → AreShown covered n g cells i marks values taints → AreShown covered n g cells (i + 1) new_marks new_values new_taints
 unfolding AreShown
-cell_evaluated n g order i values taints new_values new_taints marks new_marks w o l hv ht m h = λ b.
-    step_bit n g order i b values taints new_values new_taints marks new_marks (is_of_cell (get_or order i 0) (driver_of n b)) w o l m (passed_stay n g order i values taints new_values new_taints w o l hv ht)
-    (evaluated_at n g (get_or order i 0) b values taints new_values new_taints hv ht) refl (h b)
+cell_evaluated n g order cells covered i values taints new_values new_taints marks new_marks w o k l hv ht m h = λ b c.
+    let at = has_place n order (get_or cells i 0) o (k.passing i l) in
+    let p : ℕ = place_in order (get_or cells i 0) in
+    let hv_at : EvaluatesValues n g.stored (get_or order p 0) values new_values = subst (λ x. EvaluatesValues n g.stored x values new_values) (sym at.1) hv in
+    let ht_at : EvaluatesTaints n g.stored values g.state g.released (get_or order p 0) taints new_taints = subst (λ x. EvaluatesTaints n g.stored values g.state g.released x taints new_taints) (sym at.1) ht in
+    narrowed n g order cells covered i b new_values new_taints new_marks o k l c
+    (step_bit n g order p b values taints new_values new_taints marks new_marks (is_of_cell (get_or order p 0) (driver_of n b)) w o at.0 m (passed_stay n g order p values taints new_values new_taints w o at.0 hv_at ht_at)
+    (evaluated_at n g (get_or order p 0) b values taints new_values new_taints hv_at ht_at) refl (widened n g order cells covered i b values taints marks o k (h b c)))
 
 -- a cell that isn't marked is passed over
-pass_bit : (n : Netlist) (g : Given) (order : List ℕ) (i b : ℕ) (values taints marks : List Bool) → bit marks (get_or order i 0) ≡ false → Shows n g values taints b ⊎ Waits n order i marks b → Shows n g values taints b ⊎ Waits n order (i + 1) marks b
-pass_bit n g order i b values taints marks clear (inl h) = inl h
-pass_bit n g order i b values taints marks clear (inr h) = inr (record {
+pass_bit : (n : Netlist) (g : Given) (cells : List ℕ) (i b : ℕ) (values taints marks : List Bool) → bit marks (get_or cells i 0) ≡ false → Shows n g values taints b ⊎ Waits n cells i marks b → Shows n g values taints b ⊎ Waits n cells (i + 1) marks b
+pass_bit n g cells i b values taints marks clear (inl h) = inl h
+pass_bit n g cells i b values taints marks clear (inr h) = inr (record {
   place = h.place;
   not_passed = later h.place (h.place == i) refl h.not_passed h.marked;
   inside = h.inside;
   drives = h.drives;
   marked = h.marked;
 }) where
-  later : (p : ℕ) (t : Bool) → (p == i) ≡ t → i ≤ p → bit marks (get_or order p 0) ≡ true → i + 1 ≤ p
-  later p true e l is = absurd (let z : false ≡ true = sym clear ∙ ap (λ k. bit marks (get_or order k 0)) (sym (eqb-true p i e)) ∙ is in cc)
+  later : (p : ℕ) (t : Bool) → (p == i) ≡ t → i ≤ p → bit marks (get_or cells p 0) ≡ true → i + 1 ≤ p
+  later p true e l is = absurd (let z : false ≡ true = sym clear ∙ ap (λ k. bit marks (get_or cells k 0)) (sym (eqb-true p i e)) ∙ is in cc)
   later p false e l is = grind (arith, nat_tests)
 
-pub cell_passed_over : (n : Netlist) (g : Given) (order : List ℕ) (i : ℕ) (values taints marks : List Bool) → bit marks (get_or order i 0) ≡ false → AreShown n g order i marks values taints → AreShown n g order (i + 1) marks values taints
+pub cell_passed_over : (n : Netlist) (g : Given) (cells : List ℕ) (covered : ℕ → Bool) (i : ℕ) (values taints marks : List Bool) → bit marks (get_or cells i 0) ≡ false → AreShown covered n g cells i marks values taints → AreShown covered n g cells (i + 1) marks values taints
 unfolding AreShown
-cell_passed_over n g order i values taints marks clear h = λ b. pass_bit n g order i b values taints marks clear (h b)
+cell_passed_over n g cells covered i values taints marks clear h = λ b c. pass_bit n g cells i b values taints marks clear (h b c)
 
--- at the end of the order each bit shows what its driver gives
-end_bit : (n : Netlist) (g : Given) (order : List ℕ) (i b : ℕ) (values taints marks : List Bool) → length order ≤ i → Shows n g values taints b ⊎ Waits n order i marks b → Shows n g values taints b
-end_bit n g order i b values taints marks l (inl h) = h
-end_bit n g order i b values taints marks l (inr h) = absurd (let p : i ≤ h.place = h.not_passed in let q : h.place < length order = h.inside in omega arith)
+-- after the last of the cells each covered bit shows what its driver gives
+end_bit : (n : Netlist) (g : Given) (cells : List ℕ) (i b : ℕ) (values taints marks : List Bool) → length cells ≤ i → Shows n g values taints b ⊎ Waits n cells i marks b → Shows n g values taints b
+end_bit n g cells i b values taints marks l (inl h) = h
+end_bit n g cells i b values taints marks l (inr h) = absurd (let p : i ≤ h.place = h.not_passed in let q : h.place < length cells = h.inside in omega arith)
 
-pub all_shown : (n : Netlist) (g : Given) (order : List ℕ) (i : ℕ) (values taints marks : List Bool) → length order ≤ i → AreShown n g order i marks values taints → (b : ℕ) → Shows n g values taints b
+pub all_shown : (n : Netlist) (g : Given) (cells : List ℕ) (covered : ℕ → Bool) (i : ℕ) (values taints marks : List Bool) → length cells ≤ i → AreShown covered n g cells i marks values taints → (b : ℕ) → covered b ≡ true → Shows n g values taints b
 unfolding AreShown
-all_shown n g order i values taints marks l h = λ b. end_bit n g order i b values taints marks l (h b)
+all_shown n g cells covered i values taints marks l h = λ b c. end_bit n g cells i b values taints marks l (h b c)

@@ -52,12 +52,16 @@ unmarked_before : (old new : Bool) → (old ≡ true → new ≡ true) → new �
 unmarked_before false new kept h = refl
 unmarked_before true new kept h = absurd (let t : new ≡ true = kept refl in cc)
 
--- so the cells rest that are not marked when a cycle is settled
-pub resting_after : (n : Netlist) (before after : Given) (values taints new_values new_taints marks new_marks : List Bool) → AreKept before after marks → ((c : ℕ) → Follows n before after values taints c) → Notes n values taints new_values new_taints marks new_marks
-    → AreResting n after new_values new_taints new_marks
-unfolding AreResting AreKept
-resting_after n before after values taints new_values new_taints marks new_marks k h m = λ c clear.
+-- so a cell rests that isn't marked when a cycle is settled
+pub rests_after : (n : Netlist) (before after : Given) (values taints new_values new_taints marks new_marks : List Bool) (c : ℕ) → (bit marks c ≡ false → KeepsAt before after c) → Follows n before after values taints c → Notes n values taints new_values new_taints marks new_marks
+    → bit new_marks c ≡ false → Rests n after new_values new_taints c
+rests_after n before after values taints new_values new_taints marks new_marks c k h m clear =
     rests_at n before after values taints new_values new_taints c
     (same_words_under (bit new_values) (bit values) (cell_at n c).operands (λ q j x e. (m.noted c x (record { operand = q; place = j; is_operand = e }) clear).0))
     (same_taints_under (bit new_taints) (bit taints) (cell_at n c).operands (λ q j x e. (m.noted c x (record { operand = q; place = j; is_operand = e }) clear).1))
-    (k c (unmarked_before (bit marks c) (bit new_marks c) (m.kept c) clear)) (h c)
+    (k (unmarked_before (bit marks c) (bit new_marks c) (m.kept c) clear)) h
+
+pub resting_after : (n : Netlist) (before after : Given) (values taints new_values new_taints marks new_marks : List Bool) → AreKept before after marks → ((c : ℕ) → Follows n before after values taints c) → Notes n values taints new_values new_taints marks new_marks
+    → AreResting n after new_values new_taints new_marks
+unfolding AreResting AreKept
+resting_after n before after values taints new_values new_taints marks new_marks k h m = λ c clear. rests_after n before after values taints new_values new_taints marks new_marks c (k c) (h c) m clear

@@ -2,7 +2,7 @@
 use Rattle.std.specs.Prelude.{ℕ, ◌<◌, ◌≤◌, ◌≡◌, ◌⊎◌, Bool, true, false, List, [], length, get_or, if◌then◌else◌}
 use Rattle.cif_defs.specs.Words.{Word, bit}
 use Rattle.cif_defs.specs.Evaluation.{is_of_cell}
-use Rattle.cif_defs.specs.Loop.{counts}
+use Rattle.cif_defs.specs.Loop.{counts, is_passing}
 use Rattle.cif_defs.specs.Netlist.{Netlist, cell_at, driver_of, operand_at, role_at}
 use Rattle.cif_defs.specs.declared.nets.Src.TheVariants.{Bit}
 use Rattle.cif_defs.specs.Run.{driver_value, stored_by}
@@ -35,17 +35,42 @@ pub record Shows (n : Netlist) (g : Given) (values taints : List Bool) (b : ℕ)
   pub value : bit values b ≡ value_given n g (bit values) b
   pub taint : bit taints b ≡ taint_given n g (bit values) (bit taints) b
 
--- a net bit is driven by a marked cell that stands in the order from a place on
-pub record Waits (n : Netlist) (order : List ℕ) (from : ℕ) (marks : List Bool) (b : ℕ) : Type 0 where
+-- a net bit is driven by a marked cell that stands among the cells from a place on
+pub record Waits (n : Netlist) (cells : List ℕ) (from : ℕ) (marks : List Bool) (b : ℕ) : Type 0 where
   pub place : ℕ
   pub not_passed : from ≤ place
-  pub inside : place < length order
-  pub drives : is_of_cell (get_or order place 0) (driver_of n b) ≡ true
-  pub marked : bit marks (get_or order place 0) ≡ true
+  pub inside : place < length cells
+  pub drives : is_of_cell (get_or cells place 0) (driver_of n b) ≡ true
+  pub marked : bit marks (get_or cells place 0) ≡ true
 
--- each net bit shows what its driver gives, or is driven by a marked cell that is still to come
-unfoldable pub AreShown : Netlist → Given → List ℕ → ℕ → List Bool → List Bool → List Bool → Type 0
-AreShown n g order from marks values taints = (b : ℕ) → Shows n g values taints b ⊎ Waits n order from marks b
+-- each net bit that is covered shows what its driver gives, or is driven by a marked cell that is still to come
+unfoldable pub AreShown : (ℕ → Bool) → Netlist → Given → List ℕ → ℕ → List Bool → List Bool → List Bool → Type 0
+AreShown covered n g cells from marks values taints = (b : ℕ) → covered b ≡ true → Shows n g values taints b ⊎ Waits n cells from marks b
+
+-- all net bits are covered
+abbrev pub all_bits : ℕ → Bool
+all_bits b = true
+
+-- ---- the cells that are evaluated
+
+-- cell c stands before cell d in an order
+pub record StandsBefore (order : List ℕ) (c d : ℕ) : Type 0 where
+  pub place : ℕ
+  pub later : ℕ
+  pub before : place < later
+  pub inside : later < length order
+  pub is : get_or order place 0 ≡ c
+  pub other : get_or order later 0 ≡ d
+
+-- passing cells that stand as in an order, and drive each covered bit that a passing cell drives
+pub record CoverBits (n : Netlist) (order cells : List ℕ) (covered : ℕ → Bool) : Type 0 where
+  pub passing : (i : ℕ) → i < length cells → is_passing (role_at n (get_or cells i 0)) ≡ true
+  pub rising : (i j : ℕ) → i < j → j < length cells → StandsBefore order (get_or cells i 0) (get_or cells j 0)
+  pub drive : (b c : ℕ) → covered b ≡ true → is_of_cell c (driver_of n b) ≡ true → is_passing (role_at n c) ≡ true → (i : ℕ) × (i < length cells) × (get_or cells i 0 ≡ c)
+
+-- what is covered is worked out from what is covered: so is each operand bit that counts of a cell that drives a covered bit
+unfoldable pub AreClosed : Netlist → (ℕ → Bool) → Type 0
+AreClosed n covered = (b c q j x : ℕ) → covered b ≡ true → is_of_cell c (driver_of n b) ≡ true → counts (role_at n c) (cell_at n c) q ≡ true → operand_at (cell_at n c) q j ≡ Bit x → covered x ≡ true
 
 -- two values, or two taints, of the net bits are the same at each operand bit that counts of a cell
 unfoldable pub SameAtOperands : Netlist → ℕ → (ℕ → Bool) → (ℕ → Bool) → Type 0
@@ -106,18 +131,18 @@ pub record IsToCome (n : Netlist) (sources : List ℕ) (from : ℕ) (marks : Lis
   pub stands : StandsFrom sources from b
   pub is_open : is_open n marks b ≡ true
 
--- while the sources are set: a bit shows what its driver gives, is driven by a marked cell, or is a source to come
-unfoldable pub AreBegun : Netlist → Given → List ℕ → List ℕ → ℕ → List Bool → List Bool → List Bool → Type 0
-AreBegun n g order sources from marks values taints = (b : ℕ) → Shows n g values taints b ⊎ (Waits n order 0 marks b ⊎ IsToCome n sources from marks b)
+-- while the sources are set: a covered bit shows what its driver gives, is driven by a marked cell, or is a source to come
+unfoldable pub AreBegun : (ℕ → Bool) → Netlist → Given → List ℕ → List ℕ → ℕ → List Bool → List Bool → List Bool → Type 0
+AreBegun covered n g cells sources from marks values taints = (b : ℕ) → covered b ≡ true → Shows n g values taints b ⊎ (Waits n cells 0 marks b ⊎ IsToCome n sources from marks b)
 
 -- a source that may change
 pub record MayChange (n : Netlist) (marks : List Bool) (b : ℕ) : Type 0 where
   pub source : is_source n b ≡ true
   pub is_open : is_open n marks b ≡ true
 
--- before the sources are set: a bit shows what its driver gives, is driven by a marked cell, or is a source that may change
-unfoldable pub MayBegin : Netlist → Given → List ℕ → List Bool → List Bool → List Bool → Type 0
-MayBegin n g order marks values taints = (b : ℕ) → Shows n g values taints b ⊎ (Waits n order 0 marks b ⊎ MayChange n marks b)
+-- before the sources are set: a covered bit shows what its driver gives, is driven by a marked cell, or is a source that may change
+unfoldable pub MayBegin : (ℕ → Bool) → Netlist → Given → List ℕ → List Bool → List Bool → List Bool → Type 0
+MayBegin covered n g cells marks values taints = (b : ℕ) → covered b ≡ true → Shows n g values taints b ⊎ (Waits n cells 0 marks b ⊎ MayChange n marks b)
 
 -- ---- from cycle to cycle
 
@@ -145,6 +170,12 @@ pub record KeepsAt (before after : Given) (c : ℕ) : Type 0 where
 
 unfoldable pub AreKept : Given → Given → List Bool → Type 0
 AreKept before after marks = (c : ℕ) → bit marks c ≡ false → KeepsAt before after c
+
+-- ---- what is kept, cell by cell
+
+-- each cell that drives a covered bit, and isn't marked, stores what it stored before
+unfoldable pub AreKeptWhere : (ℕ → Bool) → Netlist → Given → Given → List Bool → Type 0
+AreKeptWhere covered n before after marks = (b c : ℕ) → covered b ≡ true → is_of_cell c (driver_of n b) ≡ true → bit marks c ≡ false → KeepsAt before after c
 
 -- whatever changes from here, with each reader of a bit that changes marked: each cell that isn't marked then rests
 unfoldable pub WillRest : Netlist → Given → List Bool → List Bool → List Bool → Type 0

@@ -1,5 +1,5 @@
 -- What is written is what the register shows.
-use Rattle.std.proofs.Common.{◌∙◌, ◌≡◌, ap, arith, length, []}
+use Rattle.std.proofs.Common.{◌∙◌, ◌<◌, ◌≡◌, ap, arith, length, []}
 use Rattle.std.proofs.lemmas.List.{get_or_read}
 use Rattle.cif_defs.specs.Cells.{Cell, width}
 use Rattle.cif_defs.specs.Kinds.{role_of}
@@ -19,7 +19,7 @@ write_shown-requires-clause-few c = register_narrow c.cell-cell.result.now c.out
 
 pub returns-clause-values : goal.returns-clause-values
 returns-clause-values c =
-    let many : length c.args.stored.now.values.items ≡ length (net_of c.args.case.now).cells = c.requires.stored.as_many_values in
+    let many : c.args.number < length c.args.stored.now.values.items = c.requires.stored.value_place in
     let here = get_or_read c.args.stored.now.values.items c.args.number _ (omega arith) c.index.ensures [] in
     let role : role_of c.cell-cell.result.now.kind ≡ ResetRegister = ap (λ (z : Cell). role_of z.kind) c.cell-cell.ensures.is ∙ c.requires.role in
     let wide : length c.output-targets.result.now ≡ width c.cell-cell.result.now = register_wide c.cell-cell.result.now c.output-targets.result.now role c.cell-cell.ensures.fitted c.output-targets.ensures in
@@ -28,9 +28,9 @@ returns-clause-values c =
 
 pub returns-clause-taints : goal.returns-clause-taints
 returns-clause-taints c =
-    let many : length c.args.stored.now.values.items ≡ length (net_of c.args.case.now).cells = c.requires.stored.as_many_values in
+    let many : c.args.number < length c.args.stored.now.values.items = c.requires.stored.value_place in
     let here = get_or_read c.args.stored.now.values.items c.args.number _ (omega arith) c.index.ensures [] in
-    let many_taints : length c.args.stored.now.taints.items ≡ length (net_of c.args.case.now).cells = c.requires.stored.as_many_taints in
+    let many_taints : c.args.number < length c.args.stored.now.taints.items = c.requires.stored.taint_place in
     let taint = get_or_read c.args.stored.now.taints.items c.args.number _ (omega arith) c.index-2.ensures [] in
     let role : role_of c.cell-cell.result.now.kind ≡ ResetRegister = ap (λ (z : Cell). role_of z.kind) c.cell-cell.ensures.is ∙ c.requires.role in
     let wide : length c.output-targets.result.now ≡ width c.cell-cell.result.now = register_wide c.cell-cell.result.now c.output-targets.result.now role c.cell-cell.ensures.fitted c.output-targets.ensures in

@@ -9,7 +9,7 @@ loop-place-init c = record {
   as_many_values = refl;
   as_many_taints = refl;
   as_many_marks = refl;
-  begun = λ h. sources_begun (net_of c.args.case.now) _ _ _ _ _ _ c.sources-sources.ensures h;
+  begun = λ covered cells k h. sources_begun (net_of c.args.case.now) _ _ _ _ _ _ _ c.sources-sources.ensures h;
   notes = nothing_noted (net_of c.args.case.now) _ _ _;
 }
 
@@ -21,9 +21,9 @@ loop-place-preserved c = record {
   as_many_values = c.set_source.ensures.values_length ∙ c.loop-place.invariant.as_many_values;
   as_many_taints = c.set_source.ensures.taints_length ∙ c.loop-place.invariant.as_many_taints;
   as_many_marks = c.set_source.ensures.marks_length ∙ c.loop-place.invariant.as_many_marks;
-  begun = λ h. c.set_source.ensures.shown c.sources-sources.result.now c.loop-place.place c.sources-sources.ensures c.loop-place-test.true refl (c.loop-place.invariant.begun h);
+  begun = λ covered cells k h. c.set_source.ensures.shown covered cells c.sources-sources.result.now c.loop-place.place k c.sources-sources.ensures c.loop-place-test.true refl (c.loop-place.invariant.begun covered cells k h);
   notes = notes_join (net_of c.args.case.now) _ _ _ _ _ _ _ _ _ c.loop-place.invariant.notes c.set_source.ensures.notes;
 }
 
 pub returns-clause-shown : goal.returns-clause-shown
-returns-clause-shown c = λ h. sources_done (net_of c.args.case.now) _ _ _ _ _ _ _ c.loop-place-test.false (c.loop-place.invariant.begun h)
+returns-clause-shown c = λ covered cells k h. sources_done (net_of c.args.case.now) _ _ _ _ _ _ _ _ c.loop-place-test.false (c.loop-place.invariant.begun covered cells k h)
