@@ -29,7 +29,7 @@ fn named(
 }
 
 /// Two names, each after some words.
-fn named_twice(
+fn two_names(
     alloc: Global,
     number: u64,
     before: &str,
@@ -136,16 +136,9 @@ fn build_line(alloc: Global, fault: &BuildFault) -> Result<Vec<u8>, AllocError>
     ensures { IfOk result (λ line. option_map line_of (build_refusal fault.now) ≡ Some line.items) }
 {
     match fault {
-        BuildFault::UnsupportedCell(c, kind) => named_twice(alloc, 10, "cell ", c, " kind ", kind),
-        BuildFault::MissingPort(c, port) => named_twice(
-            alloc,
-            11,
-            "no port ",
-            port,
-            " at cell ",
-            c,
-        ),
-        BuildFault::WidthMismatch(c, port) => named_twice(
+        BuildFault::UnsupportedCell(c, kind) => two_names(alloc, 10, "cell ", c, " kind ", kind),
+        BuildFault::MissingPort(c, port) => two_names(alloc, 11, "no port ", port, " at cell ", c),
+        BuildFault::WidthMismatch(c, port) => two_names(
             alloc,
             12,
             "width at cell ",
@@ -154,7 +147,7 @@ fn build_line(alloc: Global, fault: &BuildFault) -> Result<Vec<u8>, AllocError>
             port,
         ),
         BuildFault::WidthLimit(spot) => port_line(alloc, 13, "too wide", spot),
-        BuildFault::BadParameter(c, name) => named_twice(
+        BuildFault::BadParameter(c, name) => two_names(
             alloc,
             14,
             "parameter ",

@@ -4,13 +4,13 @@ use Rattle.cif_desk.proofs.RefusalLaws.{told}
 use Rattle.cif_desk.proofs.refusal.build_line.Goals as goal
 
 pub returns-in-MissingPort : goal.returns-in-MissingPort
-returns-in-MissingPort c = told _ _ _ (ap build_refusal c.in-MissingPort.is) c.named_twice-in-MissingPort.ensures
+returns-in-MissingPort c = told _ _ _ (ap build_refusal c.in-MissingPort.is) c.two_names-in-MissingPort.ensures
 
 pub returns-in-WidthMismatch : goal.returns-in-WidthMismatch
-returns-in-WidthMismatch c = told _ _ _ (ap build_refusal c.in-WidthMismatch.is) c.named_twice-in-WidthMismatch.ensures
+returns-in-WidthMismatch c = told _ _ _ (ap build_refusal c.in-WidthMismatch.is) c.two_names-in-WidthMismatch.ensures
 
 pub returns-in-BadParameter : goal.returns-in-BadParameter
-returns-in-BadParameter c = told _ _ _ (ap build_refusal c.in-BadParameter.is) c.named_twice-in-BadParameter.ensures
+returns-in-BadParameter c = told _ _ _ (ap build_refusal c.in-BadParameter.is) c.two_names-in-BadParameter.ensures
 
 pub returns-in-MultiDriven : goal.returns-in-MultiDriven
 returns-in-MultiDriven c = told _ _ _ (ap build_refusal c.in-MultiDriven.is) c.numbered.ensures
