@@ -1,11 +1,11 @@
 -- The forms of a netlist's cells, one after another.
-use Rattle.std.specs.Prelude.{ℕ, ◌+◌, ◌<◌, ◌≡◌, ◌⊎◌, List, [], ◌∷◌, ◌++◌, get_or, length, Option, None, MatchOption, ⊤}
+use Rattle.std.specs.Prelude.{ℕ, ◌+◌, ◌<◌, ◌≡◌, ◌⊎◌, List, [], ◌∷◌, ◌++◌, get_or, length, Option, None, Some, MatchOption, ⊤}
 use Rattle.std.proofs.Common.{arith, ap, sym, subst, ◌∙◌, inl, inr}
 use Rattle.std.proofs.lemmas.List.{get_or_append_left, get_or_default, get_or_past, length-append}
 use Rattle.std.proofs.Math.Seq.{get_or-append_seam}
 use Rattle.cif_defs.specs.Cells.{Cell}
 use Rattle.cif_defs.specs.Netlist.{Netlist, cell_at, no_cell}
-use Rattle.cif_words.specs.Forms.{StandsFor}
+use Rattle.cif_words.specs.Forms.{HasForm, StandsFor}
 use Rattle.cif_words.specs.declared.form.WordForm.{WordForm}
 use Rattle.cif_seq.specs.CaseView.{AreForms}
 
@@ -18,6 +18,11 @@ no_forms n forms e = λ c. subst (λ (f : Option WordForm). FormOf n c f) (sym (
 
 below_or_not : (c i : ℕ) → (c < i) ⊎ ((c ≡ i) ⊎ (i < c))
 below_or_not c i = search arith
+
+-- of a form that is read, what counts in a cycle
+pub that_stands : (f : Option WordForm) (x : Cell) → MatchOption f (HasForm x → ⊥) (λ form. HasForm x × StandsFor form x) → MatchOption f ⊤ (λ form. StandsFor form x)
+that_stands None x h = tt
+that_stands (Some form) x h = h.1
 
 -- one more form, of the cell at its place
 pub form_more : (n : Netlist) (cells : List Cell) (forms new : List (Option WordForm)) (i : ℕ) (x : Cell) (f : Option WordForm) → AreForms n forms → length forms ≡ i → i < length cells → cells ≡ n.cells → x ≡ get_or cells i x → MatchOption f ⊤ (λ form. StandsFor form x) → new ≡ forms ++ f ∷ [] → AreForms n new

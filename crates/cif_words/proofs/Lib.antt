@@ -1,2 +1,3 @@
 pub mod NarrowPorts
+pub mod HasForms
 pub mod SumForms

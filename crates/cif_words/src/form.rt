@@ -1,18 +1,20 @@
 // Forms of cells, over all families of kinds.
-ghost use Rattle.std.specs.Prelude.{◌≡◌, MatchOption, ⊤};
+ghost use Rattle.std.specs.Prelude.{◌≡◌, true, MatchOption};
 ghost use Rattle.cif_defs.specs.Cells.{meaning};
 ghost use Rattle.cif_defs.specs.Fitted.{IsFitted, operand_widths};
+ghost use Rattle.cif_defs.specs.Kinds.{role_of};
 ghost use Rattle.cif_term.specs.CellTaints.{taint_words};
+ghost use Rattle.rule_select.specs.Selects.{is_select};
 ghost use Rattle.word_numbers.specs.HeldWords.{AreNarrow, words_held};
-ghost use Rattle.word_numbers.specs.NarrowCells.{output_widths};
-ghost use Rattle.cif_words.specs.Forms.{StandsFor};
+ghost use Rattle.word_numbers.specs.NarrowCells.{IsNarrow, output_widths};
+ghost use Rattle.cif_words.specs.Forms.{HasForm, StandsFor};
 
-use crate::narrow_ports::has_narrow_ports;
-use cif_kinds::{Cell, Kind};
+use crate::narrow_ports::narrow;
+use cif_kinds::{Cell, Kind, Role};
 use word_choices::{SelectForm, taint as choice_taint, value as choice_value};
 use word_logic::LogicForm;
 use word_numbers::Words;
-use word_sums::{AluForm, Form as NumberForm};
+use word_sums::{AluForm, SumForm};
 
 /// What a narrow combinational cell says beside the words of its operands.
 #[derive(Clone, Copy, Drop)]
@@ -20,21 +22,34 @@ pub enum WordForm {
     /// A bitwise, reducing or wiring cell.
     Logic(LogicForm),
     /// A sum, a product, a division, a comparison or an equality.
-    Number(NumberForm),
+    Number(SumForm),
     /// `$alu`.
     Adder(AluForm),
-    /// `$mux` or `$pmux`.
+    /// A choice, a table or a shift.
     Choice(SelectForm),
 }
 
+/// The form of a narrow cell that chooses or shifts; None where its table has more than 128 digits.
+fn choice_form(cell: &Cell) -> Option<WordForm>
+    requires fitted { IsFitted cell.now }
+    requires narrow { (role_of cell.now.kind ≡ Role.Combinational) × IsNarrow cell.now }
+    requires kind { is_select cell.now.kind ≡ true }
+    ensures { MatchOption result (HasForm cell.now → ⊥) (λ f. HasForm cell.now × StandsFor f cell.now) }
+{
+    match SelectForm::of(cell) {
+        Some(form) => Some(WordForm::Choice(form)),
+        None => None,
+    }
+}
+
 impl WordForm {
-    /// The form of a cell whose ports have at most 128 bits; None where the cell is wider, or of a kind without word
-    /// formulas.
+    /// The form of a combinational cell whose ports have at most 128 bits, and whose table at most 128 digits; None for
+    /// every other cell.
     pub fn of(cell: &Cell) -> Option<WordForm>
         requires { IsFitted cell.now }
-        ensures { MatchOption result ⊤ (λ f. StandsFor f cell.now) }
+        ensures { MatchOption result (HasForm cell.now → ⊥) (λ f. HasForm cell.now × StandsFor f cell.now) }
     {
-        if !has_narrow_ports(cell) || cell.operands().len() > 4 || cell.outputs().len() > 4 {
+        if !narrow(cell) {
             return None;
         }
         let kind = cell.kind();
@@ -42,14 +57,11 @@ impl WordForm {
             return Some(WordForm::Logic(LogicForm::of(cell)));
         }
         if word_sums::covers(kind) {
-            return Some(WordForm::Number(NumberForm::of(cell)));
+            return Some(WordForm::Number(SumForm::of(cell)));
         }
-        if matches!(kind, Kind::Alu) {
-            return Some(WordForm::Adder(AluForm::of(cell)));
-        }
-        match SelectForm::of(cell) {
-            Some(form) => Some(WordForm::Choice(form)),
-            None => None,
+        match kind {
+            Kind::Alu => Some(WordForm::Adder(AluForm::of(cell))),
+            _ => choice_form(cell),
         }
     }
 

@@ -27,7 +27,7 @@ use Rattle.rule_select.proofs.TreeLaws.{tree_bit}
 
 -- ---- $bmux
 
-bmux_gives : (n m : ℕ) (us : List Word) → length (operand us 1) ≡ m → (i : ℕ) → i < n → bit (bmux_word n (operand us 0) (operand us 1)) i ≡ tree_bit (half_tree n m 1 (extended_leaf 0 false)) m i us
+pub bmux_gives : (n m : ℕ) (us : List Word) → length (operand us 1) ≡ m → (i : ℕ) → i < n → bit (bmux_word n (operand us 0) (operand us 1)) i ≡ tree_bit (half_tree n m 1 (extended_leaf 0 false)) m i us
 bmux_gives n m us e i h =
     let place : number (operand us 1) * n + i ≡ i + n * number (operand us 1) = omega arith in
     bit-word n (λ k. bit (operand us 0) (number (operand us 1) * n + k)) i false h ∙ ap (bit (operand us 0)) place ∙ sym (half_all n m 1 (extended_leaf 0 false) us e i h)
@@ -76,7 +76,7 @@ block_over n x i f some h past =
     let inside : nat_le (n * x) i ≡ true = grind (arith, nat_tests) in
     ap (λ b. b && f (i % n)) test ∙ sym (ap (λ b. b && f (i - n * x)) inside ∙ past)
 
-block_place : (n x i : ℕ) (f : ℕ → Bool) → 1 ≤ n → ((k : ℕ) → n ≤ k → f k ≡ false) → (i / n == x && f (i % n)) ≡ (nat_le (n * x) i && f (i - n * x))
+pub block_place : (n x i : ℕ) (f : ℕ → Bool) → 1 ≤ n → ((k : ℕ) → n ≤ k → f k ≡ false) → (i / n == x && f (i % n)) ≡ (nat_le (n * x) i && f (i - n * x))
 block_place n x i f some past = elim (le_or_lt i (n * x)) [
   | inl h ↦ block_under n x i f h
   | inr h ↦ elim (le_or_lt i (n * x + n)) [
@@ -85,7 +85,7 @@ block_place n x i f some past = elim (le_or_lt i (n * x)) [
   ]
 ]
 
-demux_gives : (n m : ℕ) (us : List Word) → 1 ≤ n → length (operand us 0) ≡ n → length (operand us 1) ≡ m → (i : ℕ) → i < n * 2 ^ m → bit (demux_word n m (operand us 0) (operand us 1)) i ≡ tree_bit (block_tree n m) m i us
+pub demux_gives : (n m : ℕ) (us : List Word) → 1 ≤ n → length (operand us 0) ≡ n → length (operand us 1) ≡ m → (i : ℕ) → i < n * 2 ^ m → bit (demux_word n m (operand us 0) (operand us 1)) i ≡ tree_bit (block_tree n m) m i us
 demux_gives n m us some d e i h =
     bit-word (n * 2 ^ m) (λ k. k / n == number (operand us 1) && bit (operand us 0) (k % n)) i false h
     ∙ block_place n (number (operand us 1)) i (bit (operand us 0)) some (λ k l. get_or_past (operand us 0) k false (omega arith)) ∙ sym (block_all n m us d e i h)

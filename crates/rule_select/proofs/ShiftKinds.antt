@@ -87,7 +87,7 @@ shr_taints c f e = right_taints c (shr_cell c f e) (ap (λ k. weight_by k c) e)
 -- ---- to the right with the sign
 
 -- past its highest bit a signed word goes on with it
-sign_stays : (w m k : ℕ) (v : Word) → length v ≡ m → 1 ≤ m → m ≤ w → extended_bit true k v ≡ extended_bit true (min k (w - 1)) v
+pub sign_stays : (w m k : ℕ) (v : Word) → length v ≡ m → 1 ≤ m → m ≤ w → extended_bit true k v ≡ extended_bit true (min k (w - 1)) v
 sign_stays w m k v e some h = elim (le_or_lt k w) [
   | inl l ↦ (let same : k ≡ min k (w - 1) = omega arith in ap (λ x. extended_bit true x v) same)
   | inr l ↦ get_or_past v k (top v) (omega arith) ∙ sym (elim (le_or_lt (min k (w - 1)) m) [

@@ -1,16 +1,15 @@
 -- The stages of choices, on words beside their taints.
-use Rattle.std.specs.Prelude.{ℕ, suc, ◌+◌, ◌-◌, ◌*◌, ◌/◌, ◌%◌, ◌^◌, ◌<◌, ◌≤◌, ◌≡◌, ◌==◌, nat_le, nat_lt, Bool, true, false, ◌&&◌, List, [], ◌∷◌, length, map, refl, if◌then◌else◌}
+use Rattle.std.specs.Prelude.{ℕ, suc, ◌+◌, ◌-◌, ◌*◌, ◌^◌, ◌<◌, ◌≤◌, ◌≡◌, nat_le, nat_lt, Bool, true, false, ◌&&◌, List, [], ◌∷◌, length, map, refl, if◌then◌else◌}
 use Rattle.std.proofs.Common.{arith, sym, ap, subst, ◌∙◌, inl, inr}
 use Rattle.std.proofs.lemmas.Bool.Decides.{nat_tests}
-use Rattle.std.proofs.lemmas.List.{get_or_past}
 use Rattle.std.proofs.Math.Pow.{pow_mono}
-use Rattle.cif_defs.specs.Words.{Word, bit, digit, number, operand, word, word_of}
+use Rattle.cif_defs.specs.Words.{Word, bit, digit, operand, word, word_of}
 use Rattle.cif_defs.specs.Meanings.{bmux_word, demux_word, mux_word, slice_word}
 use Rattle.cif_defs.proofs.Numbers.{word-same}
 use Rattle.cif_defs.proofs.WordLaws.{bit-word, le_or_lt, length-word}
 use Rattle.rule_select.specs.declared.moves.Moves.TheVariants.{Blocks, Halves}
 use Rattle.rule_select.specs.Moves.{order_by}
-use Rattle.rule_select.proofs.BlockLaws.{block_all, block_tree, half_all, half_tree}
+use Rattle.rule_select.proofs.BlockLaws.{block_tree, half_tree}
 use Rattle.rule_select.proofs.BlockTrees.{block_moving, half_is, half_moving, halved, twice}
 use Rattle.rule_select.proofs.ChoiceTaints.{bit_differs, reads_other}
 use Rattle.rule_select.proofs.Leaves.{extended_leaf, leaf_ignores}
@@ -18,12 +17,13 @@ use Rattle.rule_select.proofs.MoveReads.{left_at, left_place, left_under}
 use Rattle.rule_select.proofs.MoveTrees.{moving_tree, place_by}
 use Rattle.rule_select.proofs.PlacedParts.{moved_bit}
 use Rattle.rule_select.proofs.SelectOperands.{operand_by}
+use Rattle.rule_select.proofs.SelectionKinds.{bmux_gives, demux_gives}
 use Rattle.rule_select.proofs.TreeLaws.{IsTree, Tree, chosen_bit, differs, tree_bit}
 use Rattle.word_numbers.specs.HeldWords.{raised_word}
 use Rattle.word_numbers.proofs.Digits.{digit_above, digits-word_of, word_of-digits}
 use Rattle.word_choices.specs.declared.shadowed.Shadowed.{Shadowed}
 use Rattle.word_choices.specs.Shadows.{IsChosen, IsWithin, exact_word, three_taints, three_values, two_taints, two_values}
-use Rattle.word_choices.proofs.ChoiceValues.{block_place, own_bits}
+use Rattle.word_choices.proofs.ChoiceValues.{own_bits}
 use Rattle.word_choices.proofs.MovedWords.{raised_by}
 use Rattle.word_choices.proofs.ShadowLaws.{IsShadow, choice_shadow, differs_by, exact_by, part_shadow, stage_shadow}
 use Rattle.word_choices.proofs.ShiftShadows.{select_as, two_widths}
@@ -97,11 +97,6 @@ half_stage n m w j half p q word zero one r some few h e g zv zt zi ov ot oi c =
     (λ f. slice_reads (halved n m j) (n * 2 ^ (m - suc j)) (halved n m (suc j)) f (omega arith)) g high high_taint (subst (λ k. IsWithin k one) e oi))
     (select_as m (m - suc j) q zero one r (omega arith) c))
 
-bmux_gives : (n m w : ℕ) (us : List Word) → map length us ≡ w ∷ m ∷ [] → (i : ℕ) → i < n → bit (bmux_word n (operand us 0) (operand us 1)) i ≡ tree_bit (bmux_tree n m) m i us
-bmux_gives n m w us e i h =
-    let place : number (operand us 1) * n + i ≡ i + n * number (operand us 1) = omega arith in
-    bit-word n (λ k. bit (operand us 0) (number (operand us 1) * n + k)) i false h ∙ ap (bit (operand us 0)) place ∙ sym (half_all n m 1 (extended_leaf 0 false) us (operand_by us (w ∷ m ∷ []) 1 m e refl).1 i h)
-
 pub bmux_start : (n m : ℕ) (p q : Shadowed) → IsWithin (n * 2 ^ m) p → IsShadow (halved n m 0) (tree_bit (bmux_tree n m) 0) (two_values (n * 2 ^ m) m p q) (two_taints (n * 2 ^ m) m p q) p
 bmux_start n m p q inside =
     let all : m ≡ m - 0 = omega arith in
@@ -117,7 +112,7 @@ pub bmux_end : (n m w j : ℕ) (p q r : Shadowed) → j ≡ m → IsShadow (halv
     → word_of n r.taint ≡ exact_word n (λ us. bmux_word n (operand us 0) (operand us 1)) (two_values w m p q) (two_taints w m p q)
 bmux_end n m w j p q r last g =
     exact_by n r.taint (tree_bit (bmux_tree n m) m) (λ us. bmux_word n (operand us 0) (operand us 1)) (two_values w m p q) (two_taints w m p q) (bmux_last n m j _ _ r last g).taint
-    (λ us e i h. bmux_gives n m w us (e ∙ two_widths w m p.value q.value) i h)
+    (λ us e i h. bmux_gives n m us (operand_by us (w ∷ m ∷ []) 1 m (e ∙ two_widths w m p.value q.value) refl).1 i h)
 
 -- ---- $demux
 
@@ -184,13 +179,6 @@ block_stage n m j half by p q word upper r some few h e same g ev et inside c =
     (upper_shadow (n * 2 ^ j) (tree_bit (block_tree n m) j) vs ts word upper g high high_taint (subst (λ k. IsWithin (k + k) upper) e inside)))
     (select_as m j q word upper r h c))
 
-demux_gives : (n m : ℕ) (us : List Word) → 1 ≤ n → map length us ≡ n ∷ m ∷ [] → (i : ℕ) → i < n * 2 ^ m → bit (demux_word n m (operand us 0) (operand us 1)) i ≡ tree_bit (block_tree n m) m i us
-demux_gives n m us some e i h =
-    let first : length (operand us 0) ≡ n = (operand_by us (n ∷ m ∷ []) 0 n e refl).1 in
-    let second : length (operand us 1) ≡ m = (operand_by us (n ∷ m ∷ []) 1 m e refl).1 in
-    bit-word (n * 2 ^ m) (λ k. k / n == number (operand us 1) && bit (operand us 0) (k % n)) i false h
-    ∙ block_place n (number (operand us 1)) i (bit (operand us 0)) some (λ k l. get_or_past (operand us 0) k false (omega arith)) ∙ sym (block_all n m us first second i h)
-
 pub demux_start : (n m : ℕ) (p q : Shadowed) → IsWithin n p → IsShadow (n * 2 ^ 0) (tree_bit (block_tree n m) 0) (two_values n m p q) (two_taints n m p q) p
 demux_start n m p q inside =
     let one : n ≡ n * 2 ^ 0 = omega arith in
@@ -203,4 +191,6 @@ pub demux_end : (n m j : ℕ) (p q r : Shadowed) → 1 ≤ n → j ≡ m → IsS
     → word_of (n * 2 ^ m) r.taint ≡ exact_word (n * 2 ^ m) (λ us. demux_word n m (operand us 0) (operand us 1)) (two_values n m p q) (two_taints n m p q)
 demux_end n m j p q r some last g =
     exact_by (n * 2 ^ m) r.taint (tree_bit (block_tree n m) m) (λ us. demux_word n m (operand us 0) (operand us 1)) (two_values n m p q) (two_taints n m p q) (demux_last n m j _ _ r last g).taint
-    (λ us e i h. demux_gives n m us some (e ∙ two_widths n m p.value q.value) i h)
+    (λ us e i h.
+        let widths : map length us ≡ n ∷ m ∷ [] = e ∙ two_widths n m p.value q.value in
+        demux_gives n m us some (operand_by us (n ∷ m ∷ []) 0 n widths refl).1 (operand_by us (n ∷ m ∷ []) 1 m widths refl).1 i h)

@@ -1,17 +1,18 @@
 -- The values of choices, from those of the operations that make them.
-use Rattle.std.specs.Prelude.{ℕ, zero, suc, ◌+◌, ◌-◌, ◌*◌, ◌/◌, ◌%◌, ◌^◌, ◌<◌, ◌≤◌, ◌≡◌, ◌≢◌, ◌==◌, nat_le, nat_lt, Bool, true, false, not, ◌&&◌, [], ◌∷◌, length, position, Some, None, refl, if◌then◌else◌}
+use Rattle.std.specs.Prelude.{ℕ, zero, suc, ◌+◌, ◌-◌, ◌*◌, ◌^◌, ◌<◌, ◌≤◌, ◌≡◌, ◌==◌, nat_le, nat_lt, Bool, true, false, not, ◌&&◌, [], ◌∷◌, length, position, Some, None, refl, if◌then◌else◌}
 use Rattle.std.specs.List.{prefix_len}
 use Rattle.std.proofs.Common.{arith, sym, ap, cond, ◌∙◌, inl, inr}
 use Rattle.std.proofs.lemmas.Bool.Decides.{nat_tests}
 use Rattle.std.specs.Int.{trailing_zeros, w128}
 use Rattle.std.proofs.lemmas.Nat.Bits.{bit_at-trailing_zeros}
 use Rattle.std.proofs.Math.Pow.{pow_mono}
-use Rattle.std.proofs.Math.Nat.{mul-le-mul_right, div-eq_of_lt-le, mod-add-div, mod-eq-sub-mul-div, mod-lt}
+use Rattle.std.proofs.Math.Nat.{mul-le-mul_right}
 use Rattle.cif_defs.specs.Words.{Word, bit, digit, number, word, word_of}
 use Rattle.cif_defs.specs.Meanings.{bmux_word, demux_word, mux_word, pmux_bit, pmux_word, slice_word}
 use Rattle.cif_defs.proofs.Numbers.{word-same}
 use Rattle.cif_defs.proofs.WordLaws.{le_or_lt}
 use Rattle.rule_select.proofs.BlockTrees.{twice}
+use Rattle.rule_select.proofs.SelectionKinds.{block_place}
 use Rattle.word_numbers.specs.HeldWords.{raised_word}
 use Rattle.word_numbers.proofs.Digits.{bit-held, bit-held_by, digit_above, word_of-digits}
 use Rattle.word_choices.proofs.MovedWords.{raised_by}
@@ -30,41 +31,6 @@ pub bmux_by : (n at r : ℕ) (a s : Word) → at ≡ number s * n → word_of n 
 bmux_by n at r a s e g = g ∙ ap (λ k. word n (λ i. bit a (k + i))) e
 
 -- ---- $demux
-
-block_inside : (n x i : ℕ) (f : ℕ → Bool) → n * x ≤ i → i < n * x + n → (i / n == x && f (i % n)) ≡ (nat_le (n * x) i && f (i - n * x))
-block_inside n x i f h l =
-    let at : i / n ≡ x = div-eq_of_lt-le n (omega arith) (omega arith) in
-    let rest : i % n ≡ i - n * x = mod-eq-sub-mul-div i n ∙ ap (λ k. i - n * k) at in
-    let test : (i / n == x) ≡ true = grind (arith, nat_tests) in
-    let inside : nat_le (n * x) i ≡ true = grind (arith, nat_tests) in
-    ap (λ b. b && f (i % n)) test ∙ ap f rest ∙ sym (ap (λ b. b && f (i - n * x)) inside)
-
-block_under : (n x i : ℕ) (f : ℕ → Bool) → i < n * x → (i / n == x && f (i % n)) ≡ (nat_le (n * x) i && f (i - n * x))
-block_under n x i f h =
-    let parts : i % n + n * (i / n) ≡ i = mod-add-div i n in
-    let other : i / n ≢ x = λ e. absurd (let same : n * (i / n) ≡ n * x = ap (λ k. n * k) e in omega arith) in
-    let test : (i / n == x) ≡ false = grind (arith, nat_tests) in
-    let below : nat_le (n * x) i ≡ false = grind (arith, nat_tests) in
-    ap (λ b. b && f (i % n)) test ∙ sym (ap (λ b. b && f (i - n * x)) below)
-
-block_over : (n x i : ℕ) (f : ℕ → Bool) → 1 ≤ n → n * x + n ≤ i → f (i - n * x) ≡ false → (i / n == x && f (i % n)) ≡ (nat_le (n * x) i && f (i - n * x))
-block_over n x i f some h past =
-    let parts : i % n + n * (i / n) ≡ i = mod-add-div i n in
-    let small : i % n < n = mod-lt i (omega arith) in
-    let other : i / n ≢ x = λ e. absurd (let same : n * (i / n) ≡ n * x = ap (λ k. n * k) e in omega arith) in
-    let test : (i / n == x) ≡ false = grind (arith, nat_tests) in
-    let inside : nat_le (n * x) i ≡ true = grind (arith, nat_tests) in
-    ap (λ b. b && f (i % n)) test ∙ sym (ap (λ b. b && f (i - n * x)) inside ∙ past)
-
--- a block among others, by its place
-pub block_place : (n x i : ℕ) (f : ℕ → Bool) → 1 ≤ n → ((k : ℕ) → n ≤ k → f k ≡ false) → (i / n == x && f (i % n)) ≡ (nat_le (n * x) i && f (i - n * x))
-block_place n x i f some past = elim (le_or_lt i (n * x)) [
-  | inl h ↦ block_under n x i f h
-  | inr h ↦ elim (le_or_lt i (n * x + n)) [
-    | inl l ↦ block_inside n x i f h l
-    | inr l ↦ block_over n x i f some l (past (i - n * x) (omega arith))
-  ]
-]
 
 pub demux_by : (n m by x r : ℕ) (s : Word) → 1 ≤ n → x < 2 ^ n → by ≡ number s * n → word_of (n * 2 ^ m) r ≡ raised_word by (word_of (n * 2 ^ m) x) → word_of (n * 2 ^ m) r ≡ demux_word n m (word_of n x) s
 demux_by n m by x r s some fits e g =

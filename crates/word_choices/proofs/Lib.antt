@@ -7,4 +7,6 @@ pub mod ChoiceShadows
 pub mod ChainShadows
 pub mod OffsetShadows
 pub mod FormLaws
+pub mod TableLaws
+pub mod NarrowWidths
 pub mod CellForms

@@ -99,7 +99,7 @@ part_shadow w n place move f vs ts p r law g ev et inside = record {
 -- ---- the end
 
 -- completions are as long as the values
-same_lengths : (vs us : List Word) → length us ≡ length vs → ((p : ℕ) → length (operand us p) ≡ length (operand vs p)) → map length us ≡ map length vs
+pub same_lengths : (vs us : List Word) → length us ≡ length vs → ((p : ℕ) → length (operand us p) ≡ length (operand vs p)) → map length us ≡ map length vs
 same_lengths [] [] e h = refl
 same_lengths [] (u ∷ us) e h = absurd (let q : suc (length us) ≡ 0 = e in omega arith)
 same_lengths (v ∷ vs) [] e h = absurd (let q : 0 ≡ suc (length vs) = e in omega arith)

@@ -1,7 +1,7 @@
 -- The stages of shifts, on words beside their taints.
 use Rattle.std.specs.Prelude.{ℕ, ◌+◌, ◌-◌, ◌^◌, ◌<◌, ◌≤◌, ◌≡◌, nat_le, nat_lt, min, max, Bool, true, false, ◌&&◌, List, [], ◌∷◌, length, map, refl}
 use Rattle.std.proofs.Common.{arith, sym, ap, ◌∙◌, inl, inr}
-use Rattle.std.proofs.lemmas.List.{get_or_default, get_or_past, take_all}
+use Rattle.std.proofs.lemmas.List.{get_or_past, take_all}
 use Rattle.cif_defs.specs.Words.{Word, bit, digit, extend, extended_bit, number, operand, top, word, word_of}
 use Rattle.cif_defs.specs.Meanings.{extended_to, shl_word, shr_word, sshr_word}
 use Rattle.cif_defs.proofs.Numbers.{word-same}
@@ -14,6 +14,7 @@ use Rattle.rule_select.proofs.MoveTrees.{left_moving, move_tree, moving_tree, pl
 use Rattle.rule_select.proofs.PlacedParts.{bit_within}
 use Rattle.rule_select.proofs.SelectOperands.{operand_by}
 use Rattle.rule_select.proofs.ShiftBits.{left_bits, moved_by, right_bits, signed_bits}
+use Rattle.rule_select.proofs.ShiftKinds.{sign_stays}
 use Rattle.rule_select.proofs.TreeLaws.{IsTree, Tree, differs, tree_bit}
 use Rattle.word_numbers.specs.HeldWords.{lowered_word, raised_word}
 use Rattle.word_numbers.proofs.Digits.{bit-held_by}
@@ -140,16 +141,6 @@ signed_stage w a b j by p q word moved r some few h e g ev et inside c =
     (part_shadow w w (λ i. min (i + 2 ^ j) (w - 1)) (λ v. lowered_word (2 ^ j) (top v) v) (tree_bit (signed_tree w b) j) _ _ word moved (λ f. signed_reads w (2 ^ j) f some) g
     (ev ∙ ap (λ k. lowered_word k (top (word_of w word.value)) (word_of w word.value)) e) (et ∙ ap (λ k. lowered_word k (top (word_of w word.taint)) (word_of w word.taint)) e) inside)
     (select_as b j q word moved r h c))
-
--- past its highest bit a signed word goes on with it
-sign_stays : (w m k : ℕ) (v : Word) → length v ≡ m → 1 ≤ m → m ≤ w → extended_bit true k v ≡ extended_bit true (min k (w - 1)) v
-sign_stays w m k v e some h = elim (le_or_lt k w) [
-  | inl l ↦ (let same : k ≡ min k (w - 1) = omega arith in ap (λ x. extended_bit true x v) same)
-  | inr l ↦ get_or_past v k (top v) (omega arith) ∙ sym (elim (le_or_lt (min k (w - 1)) m) [
-    | inl inside ↦ (let last : min k (w - 1) ≡ length v - 1 = omega arith in get_or_default v (min k (w - 1)) (top v) false (omega arith) ∙ ap (bit v) last)
-    | inr past ↦ get_or_past v (min k (w - 1)) (top v) (omega arith)
-  ])
-]
 
 signed_gives : (n a b w : ℕ) (us : List Word) → 1 ≤ a → w ≡ max a n → map length us ≡ a ∷ b ∷ [] → (i : ℕ) → i < n → bit (sshr_word n true (operand us 0) (operand us 1)) i ≡ tree_bit (signed_tree w b) b i us
 signed_gives n a b w us some wide e i h =

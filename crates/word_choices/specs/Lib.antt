@@ -1,2 +1,3 @@
 pub mod Shadows
+pub mod ReadForms
 pub mod SelectForms

@@ -52,8 +52,8 @@ pub fn pmux_taint(chain: Chain, a: Shadowed, b: Shadowed, s: Shadowed) -> u128
     word.taint
 }
 
-/// 2 to the power of a select bit's place.
-fn power(place: u32) -> u32
+/// 2 to the power of a number of select bits.
+pub(crate) fn power(place: u32) -> u32
     requires { place ≤ 16 }
     ensures { result ≡ 2 ^ place }
 {

@@ -12,9 +12,10 @@ ghost use Rattle.word_choices.specs.SelectForms.{IsSound, StandsFor, form_operan
 use crate::choice_taints::{bmux_taint, demux_taint, mux_taint, pmux_taint};
 use crate::choices::{bmux_value, demux_value, mux_value, pmux_value};
 use crate::shadowed::Shadowed;
-use crate::shapes::{Blocks, Chain, Shift};
+use crate::shapes::{Blocks, Chain, Shift, Table};
 use crate::shift_taints::{indexed_taint, left_taint, offset_taint, right_taint, signed_taint};
 use crate::shifts::{indexed_value, left_value, offset_value, right_value, signed_value};
+use crate::tables::{lut_taint, lut_value};
 use word_numbers::Words;
 
 /// What a cell that selects or shifts says beside the words of its operands.
@@ -28,6 +29,8 @@ pub enum SelectForm {
     Bmux(Blocks),
     /// `$demux`.
     Demux(Blocks),
+    /// `$lut`.
+    Lut(Table),
     /// `$shl` and `$sshl`.
     Left(Shift),
     /// `$shr`.
@@ -52,6 +55,7 @@ fn output_value(form: SelectForm, values: Words) -> u128
         SelectForm::Pmux(chain) => pmux_value(chain, values),
         SelectForm::Bmux(blocks) => bmux_value(blocks, values),
         SelectForm::Demux(blocks) => demux_value(blocks, values),
+        SelectForm::Lut(table) => lut_value(table, values),
         SelectForm::Left(shift) => left_value(shift, values),
         SelectForm::Right(shift) => right_value(shift, values),
         SelectForm::Signed(shift) => signed_value(shift, values),
@@ -87,6 +91,7 @@ fn output_taint(form: SelectForm, values: Words, taints: Words) -> u128
         SelectForm::Pmux(chain) => pmux_taint(chain, a, b, c),
         SelectForm::Bmux(blocks) => bmux_taint(blocks, a, b),
         SelectForm::Demux(blocks) => demux_taint(blocks, a, b),
+        SelectForm::Lut(table) => lut_taint(table, a),
         SelectForm::Left(shift) => left_taint(shift, a, b),
         SelectForm::Right(shift) => right_taint(shift, a, b),
         SelectForm::Signed(shift) => signed_taint(shift, a, b),

@@ -1,5 +1,5 @@
 // The widths of cells that select and shift.
-ghost use Rattle.std.specs.Prelude.{◌≤◌, ◌*◌, ◌^◌};
+ghost use Rattle.std.specs.Prelude.{◌≤◌, ◌<◌, ◌*◌, ◌^◌};
 
 /// How many bits A, B and Y of a shift have, 1 to 128 each, and which of A and B are signed.
 #[derive(Clone, Copy, Drop)]
@@ -34,4 +34,13 @@ pub struct Chain {
     pub ghost some: { 1 ≤ width },
     pub ghost some_selects: { 1 ≤ selects },
     pub ghost limit: { width * selects ≤ 128 },
+}
+
+/// The digits of a table, one for each number of so many address bits, lowest number lowest: at most 128 digits.
+#[derive(Clone, Copy, Drop)]
+pub struct Table {
+    pub address: u32,
+    pub digits: u128,
+    pub ghost few: { address ≤ 7 },
+    pub ghost fits: { digits < 2 ^ (2 ^ address) },
 }

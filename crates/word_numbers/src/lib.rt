@@ -9,6 +9,7 @@ mod flags;
 mod masks;
 mod moves;
 mod ones;
+mod parameters;
 #[cfg(test)]
 mod tests;
 mod widths;
@@ -18,5 +19,6 @@ pub use flags::{bit, flag, has_one, is_all_ones, is_odd, top};
 pub use masks::{complement, lowest, mask, repeated};
 pub use moves::{lowered, raised};
 pub use ones::{filled, highest_one, lowest_one};
+pub use parameters::narrow_number;
 pub use widths::{extend, join, slice};
 pub use words::Words;

@@ -28,7 +28,7 @@ use Rattle.rule_logic.proofs.Shapes.{HasRows, has_rows}
 use Rattle.word_numbers.specs.HeldWords.{AreNarrow, words_held}
 use Rattle.word_numbers.specs.NarrowCells.{AreWithin128, IsNarrow, output_widths}
 use Rattle.word_numbers.specs.declared.words.Words.{Words}
-use Rattle.word_sums.specs.declared.form.Form.{Form}
+use Rattle.word_sums.specs.declared.form.SumForm.{SumForm}
 use Rattle.word_sums.specs.declared.shape.Pair.{Pair}
 use Rattle.word_sums.specs.declared.shape.Shape.{Shape}
 use Rattle.word_sums.specs.CellForms.{IsFormOf, div_taint_of, taint_row, value_row}
@@ -108,7 +108,7 @@ record IsShapeOf (c : Cell) (s : Shape) : Type 0 where
   signed : s.signed ≡ both_signed c
   rows : HasRows c (a_row ∷ b_row ∷ []) (y_row ∷ [])
 
-shape_of : (f : Form) (c : Cell) → is_binary c.kind ≡ true → IsFormOf f c → IsShapeOf c f.shape
+shape_of : (f : SumForm) (c : Cell) → is_binary c.kind ≡ true → IsFormOf f c → IsShapeOf c f.shape
 shape_of f c h i =
     let k = binary_kind c.kind h in
     record { a = i.a; b = i.b k.no_neg; y = i.y; signed = i.signed ∙ ap (λ n. if n then a_signed c else both_signed c) k.no_neg; rows = binary_rows c h i.fitted }
@@ -149,7 +149,7 @@ value_by Ge c s x h q = row_is ge_word c s x q
 value_by Gt c s x h q = row_is gt_word c s x q
 value_by _ c s x h q = absurd (cc)
 
-pub binary_value_is : (f : Form) (c : Cell) (w : Words) (r : ℕ) → is_binary f.kind ≡ true → IsFormOf f c → word_of f.shape.y r ≡ value_row f.kind f.shape (pair_in w)
+pub binary_value_is : (f : SumForm) (c : Cell) (w : Words) (r : ℕ) → is_binary f.kind ≡ true → IsFormOf f c → word_of f.shape.y r ≡ value_row f.kind f.shape (pair_in w)
     → words_held (output_widths c) (record { a = r; b = 0; c = 0; d = 0 }) ≡ meaning c (words_held (operand_widths c) w)
 binary_value_is f c w r h i e =
     let q = shape_of f c (sym (ap is_binary i.kind) ∙ h) i in
@@ -254,7 +254,7 @@ taint_by _ c s v t e h f q = absurd (cc)
 one_taint : (c : Cell) (vs ts : List Word) → outputs_of c.kind ≡ y_row ∷ [] → taint_words c vs ts ≡ taint_word c vs ts 0 ∷ []
 one_taint c vs ts rows = ap (λ rs. map (taint_word c vs ts) (range_with_len 0 (length rs))) rows
 
-pub binary_taint_is : (f : Form) (c : Cell) (v t : Words) (r : ℕ) → is_binary f.kind ≡ true → IsFormOf f c → word_of f.shape.y r ≡ taint_row f.kind f.shape (pair_in v) (pair_in t)
+pub binary_taint_is : (f : SumForm) (c : Cell) (v t : Words) (r : ℕ) → is_binary f.kind ≡ true → IsFormOf f c → word_of f.shape.y r ≡ taint_row f.kind f.shape (pair_in v) (pair_in t)
     → words_held (output_widths c) (record { a = r; b = 0; c = 0; d = 0 }) ≡ taint_words c (words_held (operand_widths c) v) (words_held (operand_widths c) t)
 binary_taint_is f c v t r h i e =
     let q = shape_of f c (sym (ap is_binary i.kind) ∙ h) i in
@@ -265,17 +265,17 @@ binary_taint_is f c v t r h i e =
 
 -- ---- $neg
 
-held_own : (f : Form) (c : Cell) (w : Words) → operand_widths c ≡ number_of c AWidth ∷ [] → IsFormOf f c → word_of f.shape.a w.a ∷ [] ≡ words_held (operand_widths c) w
+held_own : (f : SumForm) (c : Cell) (w : Words) → operand_widths c ≡ number_of c AWidth ∷ [] → IsFormOf f c → word_of f.shape.a w.a ∷ [] ≡ words_held (operand_widths c) w
 held_own f c w widths i = ap (λ n. word_of n w.a ∷ []) i.a ∙ sym (ap (λ ns. words_held ns w) widths)
 
-neg_signed : (f : Form) (c : Cell) → c.kind ≡ Neg → IsFormOf f c → f.shape.signed ≡ a_signed c
+neg_signed : (f : SumForm) (c : Cell) → c.kind ≡ Neg → IsFormOf f c → f.shape.signed ≡ a_signed c
 neg_signed f c e i = i.signed ∙ ap (λ k. if is_neg k then a_signed c else both_signed c) e
 
 neg_meaning : (c : Cell) (us : List Word) → words_by Neg c us ≡ unary neg_word c us
 unfolding words_by
 neg_meaning c us = refl
 
-pub neg_value_is : (f : Form) (c : Cell) (w : Words) (r : ℕ) → f.kind ≡ Neg → IsFormOf f c → word_of f.shape.y r ≡ neg_word f.shape.y f.shape.signed (word_of f.shape.a w.a)
+pub neg_value_is : (f : SumForm) (c : Cell) (w : Words) (r : ℕ) → f.kind ≡ Neg → IsFormOf f c → word_of f.shape.y r ≡ neg_word f.shape.y f.shape.signed (word_of f.shape.a w.a)
     → words_held (output_widths c) (record { a = r; b = 0; c = 0; d = 0 }) ≡ meaning c (words_held (operand_widths c) w)
 neg_value_is f c w r k i e =
     let is : c.kind ≡ Neg = sym i.kind ∙ k in
@@ -285,12 +285,12 @@ neg_value_is f c w r k i e =
     ∙ sym (neg_meaning c (word_of f.shape.a w.a ∷ [])) ∙ sym (ap (λ x. words_by x c (word_of f.shape.a w.a ∷ [])) is)
     ∙ ap (words_by c.kind c) (held_own f c w rows.widths i)
 
-own_formula : (f : Form) (c : Cell) (vs ts : List Word) → c.kind ≡ Neg → IsFormOf f c → value_of (neg_taint f.shape.y f.shape.signed f.shape.a) vs ts [] ≡ value_of (of_own neg_taint c) vs ts []
+own_formula : (f : SumForm) (c : Cell) (vs ts : List Word) → c.kind ≡ Neg → IsFormOf f c → value_of (neg_taint f.shape.y f.shape.signed f.shape.a) vs ts [] ≡ value_of (of_own neg_taint c) vs ts []
 own_formula f c vs ts e i =
     ap (λ n. value_of (neg_taint n f.shape.signed f.shape.a) vs ts []) i.y ∙ ap (λ b. value_of (neg_taint (y_width c) b f.shape.a) vs ts []) (neg_signed f c e i)
     ∙ ap (λ n. value_of (neg_taint (y_width c) (a_signed c) n) vs ts []) i.a
 
-pub neg_taint_means : (f : Form) (c : Cell) (v t : Words) (r : ℕ) → f.kind ≡ Neg → IsFormOf f c → word_of f.shape.y r ≡ taint_of_one neg_taint f.shape v.a t.a
+pub neg_taint_means : (f : SumForm) (c : Cell) (v t : Words) (r : ℕ) → f.kind ≡ Neg → IsFormOf f c → word_of f.shape.y r ≡ taint_of_one neg_taint f.shape v.a t.a
     → words_held (output_widths c) (record { a = r; b = 0; c = 0; d = 0 }) ≡ taint_words c (words_held (operand_widths c) v) (words_held (operand_widths c) t)
 unfolding taint_of_one
 neg_taint_means f c v t r k i e =
@@ -315,10 +315,10 @@ narrow_output c n r w e rows y h =
     subst (λ (u : Words). AreNarrow (output_widths c) u) (sym e)
     (narrow_one (output_widths c) r (subst (λ k. r < 2 ^ k) (y ∙ sym (ap (λ rs. get_or (map (row_width c) rs) 0 0) rows)) h))
 
-pub binary_narrow : (f : Form) (c : Cell) (r : ℕ) (w : Words) → is_binary f.kind ≡ true → IsFormOf f c → w ≡ record { a = r; b = 0; c = 0; d = 0 } → r < 2 ^ f.shape.y → AreNarrow (output_widths c) w
+pub binary_narrow : (f : SumForm) (c : Cell) (r : ℕ) (w : Words) → is_binary f.kind ≡ true → IsFormOf f c → w ≡ record { a = r; b = 0; c = 0; d = 0 } → r < 2 ^ f.shape.y → AreNarrow (output_widths c) w
 binary_narrow f c r w h i e l = let rows = binary_rows c (sym (ap is_binary i.kind) ∙ h) i.fitted in narrow_output c f.shape.y r w e rows.output_rows i.y l
 
-pub neg_narrow : (f : Form) (c : Cell) (r : ℕ) (w : Words) → f.kind ≡ Neg → IsFormOf f c → w ≡ record { a = r; b = 0; c = 0; d = 0 } → r < 2 ^ f.shape.y → AreNarrow (output_widths c) w
+pub neg_narrow : (f : SumForm) (c : Cell) (r : ℕ) (w : Words) → f.kind ≡ Neg → IsFormOf f c → w ≡ record { a = r; b = 0; c = 0; d = 0 } → r < 2 ^ f.shape.y → AreNarrow (output_widths c) w
 neg_narrow f c r w k i e l = let rows = neg_rows c (sym i.kind ∙ k) i.fitted in narrow_output c f.shape.y r w e rows.output_rows i.y l
 
 -- ---- a narrow cell
@@ -345,7 +345,7 @@ has_few c h f w = few_by c (is_neg c.kind) refl h f w
 
 -- ---- numbers of the widths of a cell's operands are those of its form
 
-held_by_kind : (f : Form) (c : Cell) (w : Words) (n : Bool) → is_neg c.kind ≡ n → covers_numbers c.kind ≡ true → IsFormOf f c → AreNarrow (operand_widths c) w → IsHeldBy f w
+held_by_kind : (f : SumForm) (c : Cell) (w : Words) (n : Bool) → is_neg c.kind ≡ n → covers_numbers c.kind ≡ true → IsFormOf f c → AreNarrow (operand_widths c) w → IsHeldBy f w
 held_by_kind f c w true e h i s =
     let r : HasRows c (a_row ∷ []) (y_row ∷ []) = neg_rows c (is_neg_kind c.kind e) i.fitted in
     let own : AreNarrow (number_of c AWidth ∷ []) w = subst (λ ns. AreNarrow ns w) r.widths s in
@@ -357,5 +357,5 @@ held_by_kind f c w false e h i s =
     let own : AreNarrow (number_of c AWidth ∷ number_of c BWidth ∷ []) w = subst (λ ns. AreNarrow ns w) r.widths s in
     record { a = subst (λ k. w.a < 2 ^ k) (sym i.a) own.a; b = subst (λ k. w.b < 2 ^ k) (sym (i.b e)) own.b }
 
-pub held_by : (f : Form) (c : Cell) (w : Words) → IsFormOf f c → AreNarrow (operand_widths c) w → IsHeldBy f w
+pub held_by : (f : SumForm) (c : Cell) (w : Words) → IsFormOf f c → AreNarrow (operand_widths c) w → IsHeldBy f w
 held_by f c w i s = held_by_kind f c w (is_neg c.kind) refl (sym (ap covers_numbers i.kind) ∙ f.covered) i s

@@ -10,7 +10,7 @@ use Rattle.cif_defs.specs.declared.kinds.Param.TheVariants.{AWidth, BWidth}
 use Rattle.rule_arith.specs.EqualFormulas.{equal_taint}
 use Rattle.rule_arith.specs.OrderFormulas.{greater_taint, less_taint}
 use Rattle.rule_arith.specs.SumFormulas.{add_taint, sub_taint}
-use Rattle.word_sums.specs.declared.form.Form.{Form}
+use Rattle.word_sums.specs.declared.form.SumForm.{SumForm}
 use Rattle.word_sums.specs.declared.shape.Pair.{Pair}
 use Rattle.word_sums.specs.declared.shape.Shape.{Shape}
 use Rattle.word_sums.specs.CoarseWords.{division_taint_of, product_taint_of, quotient_taint_of}
@@ -67,7 +67,7 @@ taint_row _ s v t = []
 abbrev pub signed_cell : Cell → Bool
 signed_cell c = if is_neg c.kind then a_signed c else both_signed c
 
-pub record IsFormOf (f : Form) (c : Cell) : Type 0 where
+pub record IsFormOf (f : SumForm) (c : Cell) : Type 0 where
   pub kind : f.kind ≡ c.kind
   pub a : f.shape.a ≡ number_of c AWidth
   pub b : is_neg c.kind ≡ false → f.shape.b ≡ number_of c BWidth

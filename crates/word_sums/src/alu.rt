@@ -5,13 +5,12 @@ ghost use Rattle.word_sums.specs.AluNumbers.{AreAluOperands, IsShort, alu_carry_
 ghost use Rattle.word_sums.specs.AluWords.{AreAluWords};
 
 use crate::bounds::Bounds;
-use crate::form::narrow_number;
 use crate::shape::{Pair, Shape, summand};
 use crate::sums::{Carry, Summand, Sums, join, single_taint};
 use crate::values::extended_pair;
 use cif_arith::alu;
 use cif_kinds::{Cell, Param};
-use word_numbers::{Words, bit, repeated};
+use word_numbers::{Words, bit, narrow_number, repeated};
 
 /// The least and the greatest of a bit with its taint.
 fn bit_bounds(value: u128, taint: u128) -> Carry

@@ -8,11 +8,11 @@ use crate::shape::{Pair, Shape};
 use crate::sum_taints::neg_taint;
 use crate::values::neg_value;
 use cif_kinds::{Cell, Kind, Param};
-use word_numbers::Words;
+use word_numbers::{Words, narrow_number};
 
 /// A cell of a kind that is covered here, made ready for values and taints.
 #[derive(Clone, Copy, Debug, PartialEq, Eq, Drop)]
-pub struct Form {
+pub struct SumForm {
     pub kind: Kind,
     pub shape: Shape,
     pub ghost covered: { covers_numbers kind ≡ true },
@@ -50,15 +50,7 @@ fn is_neg(kind: Kind) -> bool
     matches!(kind, Kind::Neg)
 }
 
-/// A parameter of a cell that is a width of at most 128 bits.
-pub fn narrow_number(cell: &Cell, param: Param) -> u32
-    requires { number_of cell.now param ≤ 128 }
-    ensures { result ≡ number_of cell.now param }
-{
-    cell.number(param) as u32
-}
-
-impl Form {
+impl SumForm {
     ghost use Rattle.cif_defs.specs.Cells.{Cell as CellData, meaning};
     ghost use Rattle.cif_defs.specs.Fitted.{IsFitted, operand_widths};
     ghost use Rattle.cif_term.specs.CellTaints.{taint_words};
@@ -96,17 +88,17 @@ impl Form {
     }
 
     /// The form of a cell.
-    pub fn of(cell: &Cell) -> Form
+    pub fn of(cell: &Cell) -> SumForm
         requires covered { covers_numbers cell.now.kind ≡ true }
         requires fitted { IsFitted cell.now }
         requires narrow { IsNarrow cell.now }
         ensures { IsFormOf result cell.now }
     {
         let a = narrow_number(cell, Param::AWidth);
-        let b = Form::second_width(cell);
+        let b = SumForm::second_width(cell);
         let y = narrow_number(cell, Param::YWidth);
-        let signed = Form::are_signed(cell);
-        Form {
+        let signed = SumForm::are_signed(cell);
+        SumForm {
             kind: cell.kind(),
             shape: Shape { a, b, y, signed },
         }

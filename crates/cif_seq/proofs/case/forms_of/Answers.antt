@@ -2,7 +2,7 @@ use Rattle.std.proofs.Common.{◌≡◌, ap, arith, length, [], ◌∷◌}
 use Rattle.std.proofs.lemmas.List.{length-append}
 use Rattle.cif_defs.specs.Accepted.{netlist_of}
 use Rattle.cif_seq.proofs.CaseLaws.{fitted_found}
-use Rattle.cif_seq.proofs.Forms.{form_more, no_forms}
+use Rattle.cif_seq.proofs.Forms.{form_more, no_forms, that_stands}
 use Rattle.cif_seq.proofs.case.forms_of.Goals as goal
 
 pub loop-i-init : goal.loop-i-init
@@ -18,7 +18,7 @@ of-requires c =
 
 pub loop-i-preserved : goal.loop-i-preserved
 loop-i-preserved c = record {
-  forms = form_more (netlist_of c.args.netlist.now) c.cells-cells.result.now c.loop-i.forms.items c.push.new.self.items c.loop-i.i c.index-cells-i.result c.of.result c.loop-i.invariant.forms c.loop-i.invariant.as_many c.loop-i-test.true c.cells-cells.ensures.are c.index-cells-i.is c.of.ensures c.in_ok-push.ensures.items;
+  forms = form_more (netlist_of c.args.netlist.now) c.cells-cells.result.now c.loop-i.forms.items c.push.new.self.items c.loop-i.i c.index-cells-i.result c.of.result c.loop-i.invariant.forms c.loop-i.invariant.as_many c.loop-i-test.true c.cells-cells.ensures.are c.index-cells-i.is (that_stands c.of.result c.index-cells-i.result c.of.ensures) c.in_ok-push.ensures.items;
   as_many =
       let long = length-append c.loop-i.forms.items (c.of.result ∷ []) in
       let made : length c.push.new.self.items ≡ _ = ap length c.in_ok-push.ensures.items in

@@ -1,5 +1,5 @@
 -- Each kind has its taint.
-use Rattle.word_choices.specs.declared.form.SelectForm.TheVariants.{Mux, Pmux, Bmux, Demux, Left, Right, Signed, Offset, Indexed}
+use Rattle.word_choices.specs.declared.form.SelectForm.TheVariants.{Mux, Pmux, Bmux, Demux, Lut, Left, Right, Signed, Offset, Indexed}
 use Rattle.word_choices.proofs.FormLaws.{taint_as}
 use Rattle.word_choices.proofs.form.output_taint.Goals as goal
 
@@ -14,6 +14,9 @@ returns-in-Bmux-clause-word c = taint_as c.args.form (Bmux c.in-Bmux.blocks) c.a
 
 pub returns-in-Demux-clause-word : goal.returns-in-Demux-clause-word
 returns-in-Demux-clause-word c = taint_as c.args.form (Demux c.in-Demux.blocks) c.args.values c.args.taints c.demux_taint.result c.in-Demux.is c.demux_taint.ensures.word
+
+pub returns-in-Lut-clause-word : goal.returns-in-Lut-clause-word
+returns-in-Lut-clause-word c = taint_as c.args.form (Lut c.in-Lut.table) c.args.values c.args.taints c.lut_taint.result c.in-Lut.is c.lut_taint.ensures.word
 
 pub returns-in-Left-clause-word : goal.returns-in-Left-clause-word
 returns-in-Left-clause-word c = taint_as c.args.form (Left c.in-Left.shift) c.args.values c.args.taints c.left_taint.result c.in-Left.is c.left_taint.ensures.word

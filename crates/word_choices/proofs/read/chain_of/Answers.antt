@@ -1,7 +1,7 @@
 use Rattle.std.proofs.Common.{◌*◌, ◌≤◌, ◌≡◌, ◌∙◌, ap, subst, sym}
 use Rattle.cif_defs.specs.Cells.{number_of, width}
 use Rattle.cif_defs.specs.declared.kinds.Param.TheVariants.{SWidth}
-use Rattle.word_choices.proofs.CellForms.{pmux_narrow}
+use Rattle.word_choices.proofs.NarrowWidths.{pmux_narrow}
 use Rattle.word_choices.proofs.read.chain_of.Goals as goal
 
 pub narrow_number-width-requires : goal.narrow_number-width-requires

@@ -1,4 +1,4 @@
-use Rattle.word_choices.proofs.CellForms.{mux_cell}
+use Rattle.word_choices.proofs.NarrowWidths.{mux_cell}
 use Rattle.word_choices.proofs.read.mux_width.Goals as goal
 
 pub narrow_number-requires : goal.narrow_number-requires

@@ -3,7 +3,7 @@ use Rattle.cif_defs.specs.Cells.{number_of}
 use Rattle.cif_defs.specs.declared.kinds.Param.TheVariants.{BWidth}
 use Rattle.word_sums.specs.Covered.{is_neg}
 use Rattle.word_sums.proofs.FormLaws.{HasFew, HasSome, has_few, has_some}
-use Rattle.word_sums.proofs.form.Form.second_width.Goals as goal
+use Rattle.word_sums.proofs.form.SumForm.second_width.Goals as goal
 
 pub narrow_number-requires : goal.narrow_number-requires
 narrow_number-requires c =

@@ -2,7 +2,7 @@ use Rattle.std.proofs.Common.{sym, ap, ◌∙◌}
 use Rattle.word_numbers.specs.HeldWords.{words_held}
 use Rattle.word_numbers.specs.NarrowCells.{output_widths}
 use Rattle.word_sums.proofs.FormLaws.{binary_narrow, neg_narrow, binary_taint_is, covered_kind, is_neg_kind, neg_taint_means}
-use Rattle.word_sums.proofs.form.Form.taint.Goals as goal
+use Rattle.word_sums.proofs.form.SumForm.taint.Goals as goal
 
 pub binary_taint-requires-clause-kind : goal.binary_taint-requires-clause-kind
 binary_taint-requires-clause-kind c = covered_kind c.args.self.now.kind c.args.self.now.covered (sym c.is_neg.ensures ∙ c.if-is_neg.false)

@@ -2,7 +2,7 @@ use Rattle.std.proofs.Common.{arith, ◌≤◌}
 use Rattle.cif_defs.specs.Cells.{number_of, y_width}
 use Rattle.cif_defs.specs.declared.kinds.Param.TheVariants.{AWidth}
 use Rattle.word_sums.proofs.FormLaws.{HasFew, HasSome, has_few, has_some}
-use Rattle.word_sums.proofs.form.Form.of.Goals as goal
+use Rattle.word_sums.proofs.form.SumForm.of.Goals as goal
 
 pub narrow_number-a-requires : goal.narrow_number-a-requires
 narrow_number-a-requires c = let few : HasFew c.args.cell.now = has_few c.args.cell.now c.requires.covered c.requires.fitted c.requires.narrow in few.a
