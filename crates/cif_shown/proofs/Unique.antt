@@ -76,10 +76,10 @@ completed_is_final : (n : Netlist) (r : ℕ → ℕ) (covered : ℕ → Bool) (g
 completed_is_final n r covered give final bits top h base own bound b k =
     sym (taken (covered b) (bit bits b) (final b) k)
     ∙ unique n r (λ u x. cond (covered x) (give u x) (final x)) final (over covered bits final) (settled_within n r covered give final h) (λ x u v l. ap (λ z. cond (covered x) z (final x)) (base x u v l)) (λ x. own_by x (covered x) refl) top b (bound b)
-    where
-  own_by : (x : ℕ) (t : Bool) → covered x ≡ t → cond t (bit bits x) (final x) ≡ cond t (give (over covered bits final) x) (final x)
-  own_by x true e = own x e
-  own_by x false e = refl
+  where
+    own_by : (x : ℕ) (t : Bool) → covered x ≡ t → cond t (bit bits x) (final x) ≡ cond t (give (over covered bits final) x) (final x)
+    own_by x true e = own x e
+    own_by x false e = refl
 
 pub values_covered : (n : Netlist) (order : List ℕ) (covered : ℕ → Bool) (g : Given) (values taints : List Bool) → IsWired n → IsLevelled n order → AreClosed n covered → ((b : ℕ) → covered b ≡ true → Shows n g values taints b)
     → (b : ℕ) → covered b ≡ true → bit values b ≡ value_in n g.stored g.input b
