@@ -7,4 +7,5 @@ mod lines;
 mod read;
 mod reader;
 
+pub use lines::{Line, next_line};
 pub use read::read_stimulus;
