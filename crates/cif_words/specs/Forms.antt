@@ -1,23 +1,23 @@
 -- Forms of narrow combinational cells: which cells have one, and which form says all that a cell says.
 use Rattle.std.specs.Prelude.{◌≤◌, ◌≡◌, length}
-use Rattle.cif_defs.specs.Cells.{Cell, width}
+use Rattle.cif_defs.specs.Cells.{Cell}
 use Rattle.cif_defs.specs.Kinds.{role_of}
-use Rattle.cif_defs.specs.declared.kinds.Kind.TheVariants.{Lut}
 use Rattle.cif_defs.specs.declared.kinds.Role.TheVariants.{Combinational}
 use Rattle.word_numbers.specs.NarrowCells.{IsNarrow}
 use Rattle.word_logic.specs.LogicForms.{StandsFor as IsLogicForm}
 use Rattle.cif_words.specs.declared.form.WordForm.{WordForm}
 use Rattle.cif_words.specs.declared.form.WordForm.TheVariants.{Logic, Number, Adder, Choice}
+use Rattle.word_choices.specs.ReadForms.{HasShortTable}
 use Rattle.word_choices.specs.SelectForms.{StandsFor as IsSelectForm}
 use Rattle.word_sums.specs.CellForms.{IsFormOf}
 use Rattle.word_sums.specs.AluForms.{IsAluFormOf}
 
--- the cells that have a form: every combinational cell with at most 128 bits at each port, but for $lut only with at most 7
--- address bits, and so at most 128 digits
+-- the cells that have a form: every combinational cell with at most 128 bits at each port, but no $lut with more than 7 address
+-- bits
 pub record HasForm (c : Cell) : Type 0 where
   pub role : role_of c.kind ≡ Combinational
   pub narrow : IsNarrow c
-  pub table : c.kind ≡ Lut → width c ≤ 7
+  pub table : HasShortTable c
 
 -- the form of its family
 abbrev pub SaysOf : WordForm → Cell → Type 0

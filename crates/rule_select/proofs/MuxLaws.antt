@@ -25,11 +25,11 @@ use Rattle.rule_select.proofs.ChoiceTerms.{value-taint_choice, formed_taint_choi
 
 -- ---- the cell
 
-mux_widths : (c : Cell) → IsFitted c → c.kind ≡ Mux → operand_widths c ≡ width c ∷ width c ∷ 1 ∷ []
+pub mux_widths : (c : Cell) → IsFitted c → c.kind ≡ Mux → operand_widths c ≡ width c ∷ width c ∷ 1 ∷ []
 unfolding operands_of
 mux_widths c f k = f.operands ∙ ap (λ x. map (row_width c) (operands_of x)) k
 
-mux_output : (c : Cell) → c.kind ≡ Mux → output_width c 0 ≡ width c
+pub mux_output : (c : Cell) → c.kind ≡ Mux → output_width c 0 ≡ width c
 unfolding outputs_of
 mux_output c k = ap (λ x. output_width (record c { kind = x }) 0) k
 

@@ -19,6 +19,7 @@ use Rattle.cif_defs.proofs.WordNumbers.{number_below}
 use Rattle.cif_term.specs.CellTaints.{output_width, taint_word}
 use Rattle.rule_select.specs.Selects.{is_select}
 use Rattle.rule_select.proofs.DifferTests.{same_differ}
+use Rattle.rule_select.proofs.MuxLaws.{mux_output, mux_widths}
 use Rattle.rule_select.proofs.SelectLaws.{one_port}
 use Rattle.rule_select.proofs.SelectOperands.{operand_by}
 use Rattle.rule_select.proofs.SelectionCells.{bmux_output, bmux_widths, demux_output, demux_widths, lut_output, lut_widths, pmux_output, pmux_widths}
@@ -34,7 +35,7 @@ use Rattle.word_choices.specs.declared.shapes.Blocks.{Blocks}
 use Rattle.word_choices.specs.declared.shapes.Chain.{Chain}
 use Rattle.word_choices.specs.declared.shapes.Shift.{Shift as Shifting}
 use Rattle.word_choices.specs.declared.shapes.Table.{Table}
-use Rattle.word_choices.proofs.NarrowWidths.{mux_cell, mux_output, mux_widths, one_width}
+use Rattle.word_choices.proofs.NarrowWidths.{mux_cell, one_width}
 use Rattle.word_choices.proofs.ShadowLaws.{same_lengths}
 
 -- ---- the taint of a cell with one output

@@ -3,13 +3,14 @@ use Rattle.std.specs.Prelude.{ℕ, ◌*◌, ◌^◌, ◌≤◌, ◌≡◌, true,
 use Rattle.std.proofs.Common.{arith, ap, subst, ◌∙◌}
 use Rattle.std.proofs.lemmas.List.{length-map}
 use Rattle.cif_defs.specs.Cells.{Cell, number_of, width, y_width}
-use Rattle.cif_defs.specs.Fitted.{AllWithin, IsFitted, operand_widths, row_width}
+use Rattle.cif_defs.specs.Fitted.{AllWithin, IsFitted, row_width}
 use Rattle.cif_defs.specs.Table.{operands_of, outputs_of}
 use Rattle.cif_defs.specs.declared.kinds.Kind.{Kind}
 use Rattle.cif_defs.specs.declared.kinds.Kind.TheVariants.{Bmux, Demux, Mux, Pmux, Shl, Sshl, Shr, Sshr, Shift, Shiftx}
 use Rattle.cif_defs.specs.declared.kinds.Param.TheVariants.{AWidth, BWidth, SWidth}
 use Rattle.cif_term.specs.CellTaints.{output_width}
 use Rattle.rule_select.proofs.BlockTrees.{scaled_most}
+use Rattle.rule_select.proofs.MuxLaws.{mux_widths}
 use Rattle.rule_select.proofs.SelectionCells.{bmux_cell, bmux_widths, demux_cell, demux_widths, pmux_cell, pmux_widths}
 use Rattle.rule_select.proofs.ShiftCells.{IsShiftCell, shift_cell, shiftx_cell, shl_cell, shr_cell, sshl_cell, sshr_cell}
 use Rattle.word_numbers.specs.NarrowCells.{AreWithin128, IsNarrow, output_widths}
@@ -30,14 +31,6 @@ one_width c n h e = single (output_widths c) n (length-map (outputs_of c.kind) (
 pub record IsMuxCell (c : Cell) : Type 0 where
   pub some : 1 ≤ width c
   pub few : width c ≤ 128
-
-pub mux_widths : (c : Cell) → IsFitted c → c.kind ≡ Mux → operand_widths c ≡ width c ∷ width c ∷ 1 ∷ []
-unfolding operands_of
-mux_widths c f k = f.operands ∙ ap (λ x. map (row_width c) (operands_of x)) k
-
-pub mux_output : (c : Cell) → c.kind ≡ Mux → output_width c 0 ≡ width c
-unfolding outputs_of
-mux_output c k = ap (λ x. get_or (map (row_width c) (outputs_of x)) 0 0) k
 
 pub mux_cell : (c : Cell) → IsFitted c → IsNarrow c → c.kind ≡ Mux → IsMuxCell c
 unfolding operands_of

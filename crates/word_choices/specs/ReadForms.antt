@@ -11,11 +11,14 @@ use Rattle.word_choices.specs.declared.shapes.Blocks.{Blocks}
 use Rattle.word_choices.specs.declared.shapes.Shift.{Shift as Shifting}
 use Rattle.word_choices.specs.declared.shapes.Table.{Table}
 
--- the cells that have a form, among those with ports of at most 128 bits: those that choose or shift, and those whose table has
--- at most 128 digits
+-- a cell's table has at most 7 address bits, and so at most 128 digits
+abbrev pub HasShortTable : Cell → Type 0
+HasShortTable c = c.kind ≡ Lut → width c ≤ 7
+
+-- the cells that have a form, among those with ports of at most 128 bits: those that choose or shift, but no wide tables
 pub record HasForm (c : Cell) : Type 0 where
   pub kind : is_select c.kind ≡ true
-  pub table : c.kind ≡ Lut → width c ≤ 7
+  pub table : HasShortTable c
 
 -- the kinds that shift
 abbrev pub is_shift : Kind → Bool
