@@ -1,9 +1,10 @@
--- What is read has at most 16 sessions, and its numbers name wires.
-use Rattle.std.specs.Prelude.{ℕ, suc, ◌+◌, ◌<◌, ◌≤◌, ◌≡◌, nat_lt, nat_le, Bool, true, false, ◌&&◌, List, [], ◌∷◌, ◌++◌, length, Option, Some, None, Result, Ok, Err, refl, if◌then◌else◌}
-use Rattle.std.specs.List.{list_all}
-use Rattle.std.proofs.Common.{arith, sym, ap, ◌∙◌}
+-- What is read has at most 16 sessions, its numbers name wires, and these are wires of the netlist.
+use Rattle.std.specs.Prelude.{ℕ, suc, ◌≤◌, ◌≡◌, nat_le, Bool, true, false, ◌&&◌, List, [], ◌∷◌, ◌++◌, length, Option, Some, None, Result, Ok, Err, refl, if◌then◌else◌}
+use Rattle.std.specs.List.{All, list_all}
+use Rattle.std.proofs.Common.{arith, ap, ◌∙◌}
 use Rattle.std.proofs.lemmas.List.{length-append}
 use Rattle.std.proofs.lemmas.List.Folds.{list_all-append}
+use Rattle.std.proofs.lemmas.List.Elements.{All-nil}
 use Rattle.std.proofs.lemmas.Bool.Decides.{nat_tests}
 use Rattle.cif_defs.specs.declared.nets.Wire.{Wire}
 use Rattle.cif_defs.specs.declared.raw_module.Raw.{Raw}
@@ -12,7 +13,8 @@ use Rattle.cif_stimulus.specs.StimulusText.{NumberedLine}
 use Rattle.cif_text.proofs.BoolTests.{both, and_true}
 use Rattle.cif_script.specs.LineForms.{line_said}
 use Rattle.cif_script.specs.Scripts.{ScriptData, IsKept, is_line_inside, is_inside, session_limit}
-use Rattle.cif_script.specs.ScriptText.{is_begun, begun, with_line, asked, shown, show_read, wires_with, wire_number, may_stand, said_read, if_said, line_read, lines_read, no_sessions, ◌and_then◌}
+use Rattle.cif_script.specs.ScriptText.{is_begun, with_line, asked, shown, show_read, wires_with, wire_number, may_stand, said_read, if_said, line_read, lines_read, no_sessions, ◌and_then◌}
+use Rattle.cif_script.specs.ShownWires.{IsWireOf}
 use Rattle.cif_script.specs.declared.fault.ScriptFault.{ScriptFault}
 use Rattle.cif_script.specs.declared.fault.ScriptFault.TheVariants.{BadLine, TooManySessions, SameName}
 use Rattle.cif_script.specs.declared.form.Said.{Said}
@@ -20,6 +22,7 @@ use Rattle.cif_script.specs.declared.form.Said.TheVariants as said
 use Rattle.cif_script.specs.declared.session.Line.{Line}
 use Rattle.cif_script.specs.declared.session.Line.TheVariants.{At, Next, Newest, Show}
 use Rattle.cif_script.specs.declared.session.SessionScript.{SessionScript}
+use Rattle.cif_script.proofs.FoundWires.{wire_is, all_wires}
 use Rattle.cif_script.proofs.Places.{number_inside, wires_more}
 
 -- ---- more wires
@@ -74,48 +77,58 @@ shown_kept w script h = record {
       (let i = number_inside script.wires w in grind (arith, nat_tests));
 }
 
-with_session : (script : ScriptData) (name : List ℕ) → IsKept script → nat_le session_limit (length script.sessions) ≡ false → IsKept (record { sessions = script.sessions ++ record { name = name; lines = [] } ∷ []; wires = script.wires })
-with_session script name h m = record {
+abbrev with_session : ScriptData → List ℕ → ScriptData
+with_session script name = record { sessions = script.sessions ++ record { name = name; lines = [] } ∷ []; wires = script.wires }
+
+session_kept : (script : ScriptData) (name : List ℕ) → IsKept script → nat_le session_limit (length script.sessions) ≡ false → IsKept (with_session script name)
+session_kept script name h m = record {
   few = rw length-append (grind (arith, nat_tests));
   inside = list_all-append (is_inside (length script.wires)) script.sessions (record { name = name; lines = [] } ∷ [])
       ∙ and_true (list_all (is_inside (length script.wires)) script.sessions) true h.inside refl;
 }
 
-begun_kept : (script : ScriptData) (number : ℕ) (name : List ℕ) (out : ScriptData) → IsKept script → begun script number name ≡ Ok out → IsKept out
-begun_kept script number name out h e = by_tests (is_begun name script.sessions) (nat_le session_limit (length script.sessions)) refl e where
-  by_tests : (again many : Bool) → nat_le session_limit (length script.sessions) ≡ many
-      → (if again then Err (SameName number) else if many then Err TooManySessions else Ok (record { sessions = script.sessions ++ record { name = name; lines = [] } ∷ []; wires = script.wires })) ≡ Ok out → IsKept out
-  by_tests true many m k = absurd (cc)
-  by_tests false true m k = absurd (cc)
-  by_tests false false m k = (let same : record { sessions = script.sessions ++ record { name = name; lines = [] } ∷ []; wires = script.wires } ≡ out = cc in rw (← same) (with_session script name h m))
-
 -- ---- lines one after another
 
-found_kept : (script : ScriptData) (number : ℕ) (found : FoundOf) (out : ScriptData) → IsKept script → show_read script number found ≡ Ok out → IsKept out
-found_kept script number (a_wire w) out h e = (let same : shown w script ≡ out = cc in rw (← same) (shown_kept w script h))
-found_kept script number not_two_valued out h e = absurd (cc)
-found_kept script number missing out h e = absurd (cc)
+pub record IsSound (raw : Raw) (script : ScriptData) : Type 0 where
+  pub kept : IsKept script
+  pub found : All (IsWireOf raw) script.wires
 
-line_kept : (l : Line) (script out : ScriptData) → IsKept script → is_line_inside (length script.wires) l ≡ true → asked l script ≡ out → IsKept out
-line_kept l script out h i same = rw (← same) (asked_kept l script h i)
+begun_sound : (raw : Raw) (script : ScriptData) (number : ℕ) (name : List ℕ) (out : ScriptData) (again many : Bool) → nat_le session_limit (length script.sessions) ≡ many → IsSound raw script
+    → (if again then Err (SameName number) else if many then Err TooManySessions else Ok (with_session script name)) ≡ Ok out → IsSound raw out
+begun_sound raw script number name out true many m h e = absurd (cc)
+begun_sound raw script number name out false true m h e = absurd (cc)
+begun_sound raw script number name out false false m h e =
+    let same : with_session script name ≡ out = cc in
+    rw (← same) (record { kept = session_kept script name h.kept m; found = h.found })
 
-said_kept : (raw : Raw) (script : ScriptData) (number : ℕ) (line : Said) (out : ScriptData) → IsKept script → said_read raw script number line ≡ Ok out → IsKept out
-said_kept raw script number (said.Session name) out h e = begun_kept script number name out h e
-said_kept raw script number (said.At k) out h e = line_kept (At k) script out h refl (cc)
-said_kept raw script number said.Next out h e = line_kept Next script out h refl (cc)
-said_kept raw script number said.Newest out h e = line_kept Newest script out h refl (cc)
-said_kept raw script number (said.Show name) out h e = found_kept script number (found_of raw name) out h e
+line_sound : (raw : Raw) (l : Line) (script out : ScriptData) → IsSound raw script → is_line_inside (length script.wires) l ≡ true → asked l script ≡ out → IsSound raw out
+line_sound raw l script out h i same = rw (← same) (record { kept = asked_kept l script h.kept i; found = h.found })
 
-if_said_kept : (raw : Raw) (script : ScriptData) (number : ℕ) (line : Option Said) (out : ScriptData) → IsKept script → if_said raw script number line ≡ Ok out → IsKept out
-if_said_kept raw script number None out h e = absurd (cc)
-if_said_kept raw script number (Some line) out h e = by_test (may_stand script line) e where
-  by_test : (may : Bool) → (if may then said_read raw script number line else Err (BadLine number)) ≡ Ok out → IsKept out
-  by_test true k = said_kept raw script number line out h k
-  by_test false k = absurd (cc)
+found_sound : (raw : Raw) (script : ScriptData) (number : ℕ) (name : List ℕ) (found : FoundOf) (out : ScriptData) → found_of raw name ≡ found → IsSound raw script → show_read script number found ≡ Ok out → IsSound raw out
+found_sound raw script number name (a_wire w) out f h e =
+    let same : shown w script ≡ out = cc in
+    rw (← same) (record { kept = shown_kept w script h.kept; found = all_wires raw script.wires w h.found (wire_is raw name w f) })
+found_sound raw script number name not_two_valued out f h e = absurd (cc)
+found_sound raw script number name missing out f h e = absurd (cc)
 
-line_read_kept : (raw : Raw) (script : ScriptData) (l : NumberedLine) (out : ScriptData) → IsKept script → line_read raw script l ≡ Ok out → IsKept out
+said_sound : (raw : Raw) (script : ScriptData) (number : ℕ) (line : Said) (out : ScriptData) → IsSound raw script → said_read raw script number line ≡ Ok out → IsSound raw out
+said_sound raw script number (said.Session name) out h e = begun_sound raw script number name out (is_begun name script.sessions) (nat_le session_limit (length script.sessions)) refl h e
+said_sound raw script number (said.At k) out h e = line_sound raw (At k) script out h refl (cc)
+said_sound raw script number said.Next out h e = line_sound raw Next script out h refl (cc)
+said_sound raw script number said.Newest out h e = line_sound raw Newest script out h refl (cc)
+said_sound raw script number (said.Show name) out h e = found_sound raw script number name (found_of raw name) out refl h e
+
+placed_sound : (raw : Raw) (script : ScriptData) (number : ℕ) (line : Said) (may : Bool) (out : ScriptData) → IsSound raw script → (if may then said_read raw script number line else Err (BadLine number)) ≡ Ok out → IsSound raw out
+placed_sound raw script number line true out h e = said_sound raw script number line out h e
+placed_sound raw script number line false out h e = absurd (cc)
+
+if_said_sound : (raw : Raw) (script : ScriptData) (number : ℕ) (line : Option Said) (out : ScriptData) → IsSound raw script → if_said raw script number line ≡ Ok out → IsSound raw out
+if_said_sound raw script number None out h e = absurd (cc)
+if_said_sound raw script number (Some line) out h e = placed_sound raw script number line (may_stand script line) out h e
+
+line_read_sound : (raw : Raw) (script : ScriptData) (l : NumberedLine) (out : ScriptData) → IsSound raw script → line_read raw script l ≡ Ok out → IsSound raw out
 unfolding line_read
-line_read_kept raw script l out h e = if_said_kept raw script l.number (line_said l.words) out h e
+line_read_sound raw script l out h e = if_said_sound raw script l.number (line_said l.words) out h e
 
 -- what both parts give, where all is read
 abbrev Goes : Result ScriptData ScriptFault → (ScriptData → Result ScriptData ScriptFault) → ScriptData → Type 0
@@ -125,11 +138,11 @@ went_on : (r : Result ScriptData ScriptFault) (next : ScriptData → Result Scri
 went_on (Ok x) next out h = (x, (refl, h))
 went_on (Err e) next out h = absurd (cc)
 
-all_kept : (raw : Raw) (script : ScriptData) (ls : List NumberedLine) (out : ScriptData) → IsKept script → lines_read raw script ls ≡ Ok out → IsKept out
-all_kept raw script [] out h e = (let same : script ≡ out = cc in rw (← same) h)
-all_kept raw script (l ∷ ls) out h e =
+all_sound : (raw : Raw) (script : ScriptData) (ls : List NumberedLine) (out : ScriptData) → IsSound raw script → lines_read raw script ls ≡ Ok out → IsSound raw out
+all_sound raw script [] out h e = (let same : script ≡ out = cc in rw (← same) h)
+all_sound raw script (l ∷ ls) out h e =
     let went = went_on (line_read raw script l) (λ next. lines_read raw next ls) out e in
-    all_kept raw went.0 ls out (line_read_kept raw script l went.0 h went.1.0) went.1.1
+    all_sound raw went.0 ls out (line_read_sound raw script l went.0 h went.1.0) went.1.1
 
-pub read_kept : (raw : Raw) (ls : List NumberedLine) (out : ScriptData) → lines_read raw no_sessions ls ≡ Ok out → IsKept out
-read_kept raw ls out e = all_kept raw no_sessions ls out (record { few = omega arith; inside = refl }) e
+pub read_sound : (raw : Raw) (ls : List NumberedLine) (out : ScriptData) → lines_read raw no_sessions ls ≡ Ok out → IsSound raw out
+read_sound raw ls out e = all_sound raw no_sessions ls out (record { kept = record { few = omega arith; inside = refl }; found = All-nil (IsWireOf raw) }) e

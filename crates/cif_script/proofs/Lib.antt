@@ -1,3 +1,4 @@
+pub mod FoundWires
 pub mod Kept
 pub mod Places
 pub mod Readings

@@ -4,3 +4,4 @@ pub mod LineForms
 pub mod Scripts
 pub mod ScriptText
 pub mod Seen
+pub mod ShownWires

@@ -1,6 +1,6 @@
 -- The script that a text gives for a netlist, or why it gives none: the first line that fails, by its number from 1 on; and
 -- after all lines, whether they are too many.
-use Rattle.std.specs.Prelude.{ℕ, nat_lt, nat_le, Bool, true, false, not, ◌&&◌, ◌==◌, List, [], ◌∷◌, ◌++◌, length, codes, bytes_eq, position, Option, Some, None, is_some, unwrap_or, Result, Ok, Err, if◌then◌else◌}
+use Rattle.std.specs.Prelude.{ℕ, nat_lt, nat_le, Bool, true, false, ◌&&◌, List, [], ◌∷◌, ◌++◌, length, codes, bytes_eq, position, Option, Some, None, is_some, unwrap_or, Result, Ok, Err, if◌then◌else◌}
 use Rattle.std.specs.List.{list_any}
 use Rattle.cif_defs.specs.Text.{lines_of}
 use Rattle.cif_defs.specs.declared.nets.Wire.{Wire}

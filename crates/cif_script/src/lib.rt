@@ -11,8 +11,6 @@ mod reader;
 mod script;
 mod session;
 mod sizes;
-#[cfg(test)]
-mod tests;
 mod wires;
 
 pub use answer::{Answer, line_text};

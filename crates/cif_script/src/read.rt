@@ -1,9 +1,11 @@
 // Reading a script from its text.
 ghost use Rattle.std.specs.Prelude.{◌≡◌, ◌<◌, ◌+◌, ◌^◌, Ok, length, bytes_eq, codes, IfOk, IfErr};
+ghost use Rattle.std.specs.List.{All};
 ghost use Rattle.cif_defs.specs.Text.{words_of, lines_of};
 ghost use Rattle.cif_stimulus.specs.StimulusText.{numbered};
 ghost use Rattle.cif_script.specs.ScriptText.{is_title as is_title_of, no_sessions, lines_read, script_of};
 ghost use Rattle.cif_script.specs.Seen.{IsFirst, so_far};
+ghost use Rattle.cif_script.specs.ShownWires.{IsWireOf};
 
 use crate::fault::ScriptFault;
 use crate::reader::Reader;
@@ -75,6 +77,7 @@ fn read_lines<'a>(
 /// 16, every other line that isn't passed over 96. Want of memory is `Memory`.
 pub fn read_sessions(alloc: Global, netlist: &Netlist, bytes: &[u8]) -> Result<Script, ScriptFault>
     ensures ok { IfOk result (λ s. script_of netlist.now bytes.now ≡ Ok s) }
+    ensures wires { IfOk result (λ s. All (IsWireOf netlist.now) s.wires) }
     ensures err { IfErr result (IsFirst (script_of netlist.now bytes.now)) }
 {
     let Some(title) = next_line(bytes, 1) else {

@@ -1,7 +1,6 @@
 use Rattle.std.proofs.Common.{sym, ap, ◌∙◌, ◌++◌, ◌∷◌, [], List}
 use Rattle.cif_script.specs.ScriptText.{with_line}
 use Rattle.cif_script.specs.declared.session.Line.{Line}
-use Rattle.cif_script.specs.declared.session.SessionScript.{SessionScript}
 use Rattle.cif_script.proofs.Sessions.{line_to_last}
 use Rattle.cif_script.proofs.session.push_line.Goals as goal
 

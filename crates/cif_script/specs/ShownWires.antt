@@ -1,0 +1,13 @@
+-- What is known of each wire of a script.
+use Rattle.std.specs.Prelude.{ℕ, ◌<◌, ◌≤◌, ◌≡◌, length, get_or}
+use Rattle.cif_defs.specs.Accepted.{netlist_of}
+use Rattle.cif_defs.specs.declared.nets.Src.TheVariants.{Bit, Zero}
+use Rattle.cif_defs.specs.declared.nets.Wire.{Wire}
+use Rattle.cif_defs.specs.declared.raw_module.Raw.{Raw}
+use Rattle.cif_cells.specs.Finding.{a_wire, found_of, wire_limit}
+
+-- it is what its name stands for in a netlist, it isn't wide, and its net bits are net bits of the netlist
+pub record IsWireOf (raw : Raw) (w : Wire) : Type 0 where
+  pub found : found_of raw w.name ≡ a_wire w
+  pub narrow : length w.bits ≤ wire_limit
+  pub inside : (i b : ℕ) → get_or w.bits i Zero ≡ Bit b → b < length (netlist_of raw).drivers
