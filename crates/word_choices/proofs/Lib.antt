@@ -7,6 +7,7 @@ pub mod ChoiceShadows
 pub mod ChainShadows
 pub mod OffsetShadows
 pub mod FormLaws
+pub mod Untainted
 pub mod TableLaws
 pub mod NarrowWidths
 pub mod CellForms

@@ -1,12 +1,10 @@
 -- A table's digits as the operand A of $bmux.
-use Rattle.std.specs.Prelude.{ℕ, zero, suc, ◌+◌, ◌*◌, ◌%◌, ◌^◌, ◌<◌, ◌≤◌, ◌≡◌, ◌==◌, Bool, true, false, not, ◌&&◌, List, [], ◌∷◌, length, refl}
+use Rattle.std.specs.Prelude.{ℕ, zero, suc, ◌+◌, ◌*◌, ◌^◌, ◌<◌, ◌≤◌, ◌≡◌, ◌==◌, Bool, false, ◌&&◌, List, [], ◌∷◌, length}
 use Rattle.std.proofs.Common.{arith, sym, ap, subst, ◌∙◌}
 use Rattle.std.proofs.lemmas.List.{take_all}
-use Rattle.std.proofs.lemmas.Nat.{pow_pos}
-use Rattle.std.proofs.Math.Nat.{zero-div}
 use Rattle.std.proofs.Math.Pow.{pow_mono}
 use Rattle.cif_defs.specs.Words.{Word, bit, digit, number, operand, word, word_of}
-use Rattle.cif_defs.specs.Completions.{can_differ, some_word, some_words}
+use Rattle.cif_defs.specs.Completions.{can_differ}
 use Rattle.cif_defs.specs.Meanings.{bmux_word, lut_word}
 use Rattle.cif_defs.proofs.Numbers.{word-same}
 use Rattle.cif_defs.proofs.WordLaws.{bit-word, length-word}
@@ -15,24 +13,7 @@ use Rattle.cif_bits.proofs.WordForms.{IsNumberBelow}
 use Rattle.word_numbers.proofs.Digits.{bit-held, number-held}
 use Rattle.word_choices.specs.declared.shadowed.Shadowed.{Shadowed}
 use Rattle.word_choices.specs.Shadows.{exact_word, two_taints, two_values}
-
--- ---- an operand without taint
-
-known_word : (v t : Word) (p : Word → Bool) → ((i : ℕ) → bit t i ≡ false) → some_word v t p ≡ p v
-known_word [] t p h = refl
-known_word (b ∷ v) [] p h = known_word v [] (λ u. p (b ∷ u)) h
-known_word (b ∷ v) (true ∷ t) p h = absurd (let e : true ≡ false = h 0 in cc)
-known_word (b ∷ v) (false ∷ t) p h = known_word v t (λ u. p (b ∷ u)) (λ i. h (suc i))
-
--- a first operand without taint is a constant
-known_first : (f : List Word → Bool) (v t : Word) (vs ts : List Word) → ((i : ℕ) → bit t i ≡ false) → can_differ f (v ∷ vs) (t ∷ ts) ≡ can_differ (λ us. f (v ∷ us)) vs ts
-unfolding can_differ
-known_first f v t vs ts h =
-    ap (λ b. b && some_word v t (λ u. some_words vs ts (λ us. not (f (u ∷ us))))) (known_word v t (λ u. some_words vs ts (λ us. f (u ∷ us))) h)
-    ∙ ap (λ b. some_words vs ts (λ us. f (v ∷ us)) && b) (known_word v t (λ u. some_words vs ts (λ us. not (f (u ∷ us)))) h)
-
-no_taint : (n i : ℕ) → bit (word_of n 0) i ≡ false
-no_taint n i = bit-held n 0 i (pow_pos n) ∙ ap (λ k. k % 2 == 1) (zero-div (2 ^ i))
+use Rattle.word_choices.proofs.Untainted.{known_first, no_taint}
 
 -- ---- $lut is $bmux of its table
 

@@ -3,11 +3,19 @@ use Rattle.std.specs.Prelude.{ℕ, ◌^◌, ◌<◌, ◌≡◌, Bool, List, [], 
 use Rattle.cif_defs.specs.Words.{Word, bit, digit, word, word_of}
 use Rattle.cif_defs.specs.Completions.{can_differ}
 use Rattle.rule_select.specs.Choices.{choice_taint}
+use Rattle.word_numbers.specs.declared.words.Words.{Words}
 use Rattle.word_choices.specs.declared.shadowed.Shadowed.{Shadowed}
 
 -- the exact taint of a word of n bits that row gives of operand words vs with taints ts
 abbrev pub exact_word : ℕ → (List Word → Word) → List Word → List Word → Word
 exact_word n row vs ts = word n (λ i. can_differ (λ us. bit (row us) i) vs ts)
+
+-- taint words without a 1
+pub record AreUntainted (w : Words) : Type 0 where
+  pub a : w.a ≡ 0
+  pub b : w.b ≡ 0
+  pub c : w.c ≡ 0
+  pub d : w.d ≡ 0
 
 -- a word of n bits and its taint
 pub record IsWithin (n : ℕ) (p : Shadowed) : Type 0 where

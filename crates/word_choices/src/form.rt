@@ -1,12 +1,12 @@
 // Forms of cells that select and shift.
-ghost use Rattle.std.specs.Prelude.{◌≡◌, ◌^◌, ◌<◌, [], ◌∷◌};
+ghost use Rattle.std.specs.Prelude.{◌≡◌, ◌^◌, ◌<◌, ◌↔◌, [], ◌∷◌, IsTrue};
 ghost use Rattle.cif_defs.specs.Cells.{Cell, meaning};
 ghost use Rattle.cif_defs.specs.Fitted.{operand_widths};
 ghost use Rattle.cif_term.specs.CellTaints.{taint_words};
 ghost use Rattle.word_numbers.specs.NarrowCells.{output_widths};
 ghost use Rattle.cif_defs.specs.Words.{word_of};
 ghost use Rattle.word_numbers.specs.HeldWords.{AreNarrow, words_held};
-ghost use Rattle.word_choices.specs.Shadows.{exact_word};
+ghost use Rattle.word_choices.specs.Shadows.{AreUntainted, exact_word};
 ghost use Rattle.word_choices.specs.SelectForms.{IsSound, StandsFor, form_operands, form_output, form_word};
 
 use crate::choice_taints::{bmux_taint, demux_taint, mux_taint, pmux_taint};
@@ -64,8 +64,8 @@ fn output_value(form: SelectForm, values: Words) -> u128
     }
 }
 
-/// The exact taint of the word that a form gives.
-fn output_taint(form: SelectForm, values: Words, taints: Words) -> u128
+/// The exact taint of the word that a form gives, found from the select bits one by one.
+fn staged_taint(form: SelectForm, values: Words, taints: Words) -> u128
     requires sound { IsSound form }
     requires values { AreNarrow (form_operands form) values }
     requires taints { AreNarrow (form_operands form) taints }
@@ -97,6 +97,30 @@ fn output_taint(form: SelectForm, values: Words, taints: Words) -> u128
         SelectForm::Signed(shift) => signed_taint(shift, a, b),
         SelectForm::Offset(shift) => offset_taint(shift, a, b),
         SelectForm::Indexed(shift) => indexed_taint(shift, a, b),
+    }
+}
+
+/// Whether no bit of the operands is tainted.
+fn are_untainted(taints: Words) -> bool
+    ensures { IsTrue result ↔ AreUntainted taints }
+{
+    taints.a == 0 && taints.b == 0 && taints.c == 0 && taints.d == 0
+}
+
+/// The exact taint of the word that a form gives: 0 at once where no operand is tainted, as most are.
+fn output_taint(form: SelectForm, values: Words, taints: Words) -> u128
+    requires sound { IsSound form }
+    requires values { AreNarrow (form_operands form) values }
+    requires taints { AreNarrow (form_operands form) taints }
+    ensures word { word_of (form_output form) result
+        ≡ exact_word (form_output form) (form_word form) (words_held (form_operands form) values)
+        (words_held (form_operands form) taints) }
+    ensures fits { result < 2 ^ form_output form }
+{
+    if are_untainted(taints) {
+        0
+    } else {
+        staged_taint(form, values, taints)
     }
 }
 
