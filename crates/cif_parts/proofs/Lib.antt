@@ -4,4 +4,9 @@ pub mod Leading
 pub mod Listings
 pub mod PartByPart
 pub mod Joined
+pub mod Slotting
 pub mod Examples
+pub mod Copying
+pub mod Outputs
+pub mod Taking
+pub mod TakingOver
