@@ -3,8 +3,10 @@ pub mod Meeting
 pub mod Leading
 pub mod Listings
 pub mod PartByPart
-pub mod Readying
-pub mod FirstReady
-pub mod Pieces
 pub mod Joined
+pub mod Slotting
 pub mod Examples
+pub mod Copying
+pub mod Outputs
+pub mod Taking
+pub mod TakingOver

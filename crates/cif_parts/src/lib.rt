@@ -1,12 +1,12 @@
-//! A cycle worked out in pieces: the plan, which says for each part of a netlist which cells it owns and which it evaluates.
-//!
-//! The laws by which a part that evaluates its cells in order holds its piece, and by which tables that are right make a
-//! frame, stand in `proofs/`.
+//! A cycle worked out in pieces: the plan, which says for each part of a netlist which cells it owns, which it evaluates, and
+//! of which it needs what they store; and the frame of a cycle, joined from the pieces of all parts.
 #![tactic(auto)]
 
+mod join;
 mod list;
 mod mark;
 mod planning;
 mod walk;
 
+pub use join::assemble;
 pub use planning::plan;
