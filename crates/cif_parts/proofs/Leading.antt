@@ -1,17 +1,19 @@
--- The marks of the cells that a part evaluates, found backwards along a levelled order.
+-- The marks of the cells that a part evaluates, found backwards along a levelled order, and of those of which it needs what they store.
 use Rattle.std.specs.Prelude.{ℕ, ◌+◌, ◌<◌, ◌≤◌, ◌≡◌, ◌⊎◌, Bool, true, false, List, [], ◌∷◌, length, get_or, refl}
 use Rattle.std.proofs.Common.{arith, sym, ap, subst, ◌∙◌, inl, inr}
+use Rattle.std.proofs.lemmas.List.{get_or_past}
 use Rattle.cif_defs.specs.Loop.{Drives, DrivesAlong, IsLevelled, is_passing}
 use Rattle.cif_defs.specs.Netlist.{IsWired, Netlist, role_at}
 use Rattle.cif_defs.specs.Words.{bit}
 use Rattle.cif_defs.proofs.Orders.{has_place, place_in}
+use Rattle.cif_defs.proofs.WordLaws.{le_or_lt}
 use Rattle.cif_level.proofs.Driving.{HasOneOutput}
-use Rattle.cif_pieces.specs.Parts.{DrivesOperand, Evaluates, LeadsTo, OwnsCell}
+use Rattle.cif_pieces.specs.Parts.{DrivesOperand, Evaluates, LeadsTo, Needs, OwnsCell}
 use Rattle.cif_parts.specs.Closing.{IsClosed}
 use Rattle.cif_parts.specs.Marking.{Adds, AreMarks}
 use Rattle.cif_parts.specs.Walks.{IsMet, IsMetFrom}
-use Rattle.cif_parts.specs.declared.walk.Walk.TheVariants.{Operands, Counting}
-use Rattle.cif_parts.proofs.Meeting.{drives_met, drives_operand_met, met_drives, met_drives_operand}
+use Rattle.cif_parts.specs.declared.walk.Walk.TheVariants.{Operands, Counting, Registers}
+use Rattle.cif_parts.proofs.Meeting.{drives_met, drives_operand_met, met_drives, met_drives_operand, met_shows, shows_met}
 
 -- ---- what drives a cell that a part evaluates is evaluated
 
@@ -108,3 +110,29 @@ closed_last n order parts part from marks o l h =
       each = λ c e. evaluated_marked n order parts part c marks o k e;
       only = h.only;
     }
+
+-- ---- the marks of the cells of which a part needs what they store
+
+marked_inside : (marks : List Bool) (c : ℕ) → bit marks c ≡ true → c < length marks
+marked_inside marks c m = elim (le_or_lt c (length marks)) [
+  | inl l ↦ l
+  | inr l ↦ absurd (let z : bit marks c ≡ false = get_or_past marks c false l in cc)
+]
+
+pub needed_marked : (n : Netlist) (parts part : ℕ) (evaluated marks : List Bool) → IsWired n → HasOneOutput n → AreMarks evaluated (length n.cells) (Evaluates n parts part) → Adds evaluated marks (IsMetFrom Registers n evaluated (length n.cells)) → AreMarks marks (length n.cells) (Needs n parts part)
+needed_marked n parts part evaluated marks w o h k = record {
+  as_many = k.as_many ∙ h.as_many;
+  each = λ c needs. elim needs [
+    | inl e ↦ k.kept c (h.each c e)
+    | inr r ↦ k.added c (record {
+      from = r.reader;
+      before = (let l : r.reader < length evaluated = marked_inside evaluated r.reader (h.each r.reader r.evaluates) in let z : length evaluated ≡ length n.cells = h.as_many in omega arith);
+      is_chosen = h.each r.reader r.evaluates;
+      met = shows_met n r.reader c w o r.shows;
+    })
+  ];
+  only = λ c m. elim (k.only c m) [
+    | inl x ↦ inl (h.only c x)
+    | inr x ↦ inr (record { reader = x.from; shows = met_shows n x.from c w x.met; evaluates = h.only x.from x.is_chosen })
+  ];
+}

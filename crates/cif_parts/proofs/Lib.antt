@@ -3,8 +3,5 @@ pub mod Meeting
 pub mod Leading
 pub mod Listings
 pub mod PartByPart
-pub mod Readying
-pub mod FirstReady
-pub mod Pieces
 pub mod Joined
 pub mod Examples

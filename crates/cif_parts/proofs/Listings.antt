@@ -229,3 +229,16 @@ lists n order marks cells P o m h = record {
   only = λ i l. m.only (get_or cells i 0) (h.only i l);
   ordered = λ i j f l. comes_before n order (get_or cells i 0) (get_or cells j 0) o (h.rising i j f l);
 }
+
+-- the first of them, up to the end of the order
+pub lists_in_order : (n : Netlist) (order : List ℕ) (marks : List Bool) (cells : List ℕ) (P : ℕ → Type 0) → IsLevelled n order → AreMarks marks (length n.cells) P → IsListed n order marks cells (length order) → Lists order (λ c. P c × (is_passing (role_at n c) ≡ true)) cells
+lists_in_order n order marks cells P o m h = record {
+  has_each = λ c p. h.each c (m.each c p.0) (let at : place_in order c < length order = (has_place n order c o p.1).0 in let k : key n order c ≡ place_in order c = key_placed n order c p.1 in omega arith);
+  only = λ i l. (m.only (get_or cells i 0) (h.only i l), passes_below (get_or cells i 0) (h.below i l));
+  ordered = λ i j f l. comes_before n order (get_or cells i 0) (get_or cells j 0) o (h.rising i j f l);
+} where
+  passes_below : (c : ℕ) → key n order c < length order → is_passing (role_at n c) ≡ true
+  passes_below c l = elim (either (is_passing (role_at n c))) [
+    | inl p ↦ p
+    | inr p ↦ absurd (let k : key n order c ≡ length order + c = key_other n order c p in omega arith)
+  ]

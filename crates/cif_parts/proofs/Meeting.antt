@@ -4,7 +4,7 @@ use Rattle.std.proofs.Common.{arith, sym, ap, subst, ◌∙◌, cond, inl, inr}
 use Rattle.std.proofs.lemmas.List.{get_or_past}
 use Rattle.cif_defs.specs.Cells.{Cell, width}
 use Rattle.cif_defs.specs.Kinds.{role_of}
-use Rattle.cif_defs.specs.Loop.{Drives, is_passing}
+use Rattle.cif_defs.specs.Loop.{Drives}
 use Rattle.cif_defs.specs.Netlist.{Netlist, IsWired, cell_at, driver_of, no_cell, role_at, output_at, operand_at}
 use Rattle.cif_defs.specs.Words.{bit}
 use Rattle.cif_defs.specs.declared.kinds.Role.{Role}
@@ -15,11 +15,12 @@ use Rattle.cif_defs.specs.declared.nets.Driver.{Driver}
 use Rattle.cif_defs.specs.declared.nets.Driver.TheVariants.{Input, Output, Register, Read, Clock}
 use Rattle.cif_defs.proofs.WordLaws.{le_or_lt}
 use Rattle.cif_level.proofs.Driving.{HasOneOutput}
-use Rattle.cif_pieces.specs.Parts.{DrivesOperand}
+use Rattle.cif_shown.specs.Shown.{is_plain}
+use Rattle.cif_pieces.specs.Parts.{DrivesOperand, ShowsOperand}
 use Rattle.cif_parts.specs.Marking.{Adds}
-use Rattle.cif_parts.specs.Walks.{IsMet, IsMetAmong, IsMetBefore, IsMetFrom, met_at, met_by, meets_register, takes_operand}
+use Rattle.cif_parts.specs.Walks.{IsMet, IsMetAmong, IsMetBefore, IsMetFrom, met_at, met_by, meets, takes_operand}
 use Rattle.cif_parts.specs.declared.walk.Walk.{Walk}
-use Rattle.cif_parts.specs.declared.walk.Walk.TheVariants.{Operands, Counting, Shown}
+use Rattle.cif_parts.specs.declared.walk.Walk.TheVariants.{Operands, Counting, Registers}
 use Rattle.cif_parts.proofs.Marks.{adds_join, adds_nothing, adds_same}
 
 some_if : (t : Bool) (c x : ℕ) → cond t (Some c) None ≡ Some x → (t ≡ true) × (c ≡ x)
@@ -28,67 +29,79 @@ some_if false c x h = absurd (cc)
 
 -- ---- a cell that is met drives
 
--- a passing cell has this net bit among its output bits
-pub record DrivesNet (n : Netlist) (c b : ℕ) : Type 0 where
-  pub passing : is_passing (role_at n c) ≡ true
+-- a cell that a walk meets has this net bit among its output bits
+pub record GivesNet (w : Walk) (n : Netlist) (c b : ℕ) : Type 0 where
+  pub meets : meets w (role_at n c) ≡ true
   pub output : ℕ
   pub from : ℕ
   pub is_output : output_at (cell_at n c) output from ≡ Some b
 
-passing_only : (w : Walk) (r : Role) → (w ≡ Shown → ⊥) → meets_register w r ≡ true → is_passing r ≡ true
-passing_only Operands r d h = h
-passing_only Counting r d h = h
-passing_only Shown r d h = absurd (d refl)
+met_gives_by : (w : Walk) (n : Netlist) (b c : ℕ) (g : Driver) → driver_of n b ≡ g → IsWired n → met_by w n g ≡ Some c → GivesNet w n c b
+met_gives_by w n b c (Input p i) e wired h = absurd (cc)
+met_gives_by w n b c Clock e wired h = absurd (cc)
+met_gives_by w n b c (Output x p i) e wired h =
+    let both : (meets w (role_at n x) ≡ true) × (x ≡ c) = some_if (meets w (role_at n x)) x c h in
+    let found : GivesNet w n x b = record { meets = both.0; output = p; from = i; is_output = wired.output_place b x p i e } in
+    subst (λ (y : ℕ). GivesNet w n y b) both.1 found
+met_gives_by w n b c (Read x p i) e wired h =
+    let both : (meets w (role_at n x) ≡ true) × (x ≡ c) = some_if (meets w (role_at n x)) x c h in
+    let found : GivesNet w n x b = record { meets = both.0; output = 0; from = _; is_output = (wired.read_place b x p i e).1 } in
+    subst (λ (y : ℕ). GivesNet w n y b) both.1 found
+met_gives_by w n b c (Register x i) e wired h =
+    let both : (meets w (role_at n x) ≡ true) × (x ≡ c) = some_if (meets w (role_at n x)) x c h in
+    let found : GivesNet w n x b = record { meets = both.0; output = 0; from = i; is_output = wired.register_place b x i e } in
+    subst (λ (y : ℕ). GivesNet w n y b) both.1 found
 
-met_drives_by : (w : Walk) (n : Netlist) (b c : ℕ) (g : Driver) → (w ≡ Shown → ⊥) → driver_of n b ≡ g → IsWired n → met_by w n g ≡ Some c → DrivesNet n c b
-met_drives_by w n b c (Input p i) d e wired h = absurd (cc)
-met_drives_by w n b c Clock d e wired h = absurd (cc)
-met_drives_by w n b c (Output x p i) d e wired h =
-    let found : DrivesNet n x b = record { passing = ap is_passing (wired.output_role b x p i e); output = p; from = i; is_output = wired.output_place b x p i e } in
-    let same : x ≡ c = cc in
-    subst (λ (y : ℕ). DrivesNet n y b) same found
-met_drives_by w n b c (Read x p i) d e wired h =
-    let found : DrivesNet n x b = record { passing = ap is_passing (wired.read_role b x p i e); output = 0; from = _; is_output = (wired.read_place b x p i e).1 } in
-    let same : x ≡ c = cc in
-    subst (λ (y : ℕ). DrivesNet n y b) same found
-met_drives_by w n b c (Register x i) d e wired h =
-    let both : (meets_register w (role_at n x) ≡ true) × (x ≡ c) = some_if (meets_register w (role_at n x)) x c h in
-    let found : DrivesNet n x b = record { passing = passing_only w (role_at n x) d both.0; output = 0; from = i; is_output = wired.register_place b x i e } in
-    subst (λ (y : ℕ). DrivesNet n y b) both.1 found
-
-met_source : (w : Walk) (n : Netlist) (s : Src) (c : ℕ) → (w ≡ Shown → ⊥) → IsWired n → met_at w n s ≡ Some c → (b : ℕ) × (s ≡ Bit b) × DrivesNet n c b
+met_source : (w : Walk) (n : Netlist) (s : Src) (c : ℕ) → IsWired n → met_at w n s ≡ Some c → (b : ℕ) × (s ≡ Bit b) × GivesNet w n c b
 unfolding met_at
-met_source w n (Bit b) c d wired h = (b, refl, met_drives_by w n b c (driver_of n b) d refl wired h)
-met_source w n Zero c d wired h = absurd (cc)
-met_source w n One c d wired h = absurd (cc)
+met_source w n (Bit b) c wired h = (b, refl, met_gives_by w n b c (driver_of n b) refl wired h)
+met_source w n Zero c wired h = absurd (cc)
+met_source w n One c wired h = absurd (cc)
 
 pub met_drives_operand : (n : Netlist) (d c : ℕ) → IsWired n → IsMet Operands n d c → DrivesOperand n c d
 met_drives_operand n d c wired m =
-    let at = met_source Operands n (operand_at (cell_at n d) m.operand m.place) c (λ e. absurd (cc)) wired m.is in
-    record { passing = at.2.passing; output = at.2.output; from = at.2.from; operand = m.operand; to = m.place; net = at.0; is_output = at.2.is_output; is_operand = at.1 }
+    let at = met_source Operands n (operand_at (cell_at n d) m.operand m.place) c wired m.is in
+    record { passing = at.2.meets; output = at.2.output; from = at.2.from; operand = m.operand; to = m.place; net = at.0; is_output = at.2.is_output; is_operand = at.1 }
 
 pub met_drives : (n : Netlist) (d c : ℕ) → IsWired n → IsMet Counting n d c → Drives n c d
 met_drives n d c wired m =
-    let at = met_source Counting n (operand_at (cell_at n d) m.operand m.place) c (λ e. absurd (cc)) wired m.is in
-    record { passing = at.2.passing; output = at.2.output; from = at.2.from; operand = m.operand; to = m.place; net = at.0; is_output = at.2.is_output; is_operand = at.1; operand_counts = m.taken }
+    let at = met_source Counting n (operand_at (cell_at n d) m.operand m.place) c wired m.is in
+    record { passing = at.2.meets; output = at.2.output; from = at.2.from; operand = m.operand; to = m.place; net = at.0; is_output = at.2.is_output; is_operand = at.1; operand_counts = m.taken }
+
+plain_role : (r : Role) → is_plain r ≡ true → r ≡ PlainRegister
+plain_role PlainRegister h = refl
+plain_role Combinational h = absurd (cc)
+plain_role ResetRegister h = absurd (cc)
+plain_role MemoryBlock h = absurd (cc)
+plain_role CarriedOver h = absurd (cc)
+
+pub met_shows : (n : Netlist) (d c : ℕ) → IsWired n → IsMet Registers n d c → ShowsOperand n c d
+met_shows n d c wired m =
+    let at = met_source Registers n (operand_at (cell_at n d) m.operand m.place) c wired m.is in
+    record { plain = plain_role (role_at n c) at.2.meets; output = at.2.output; from = at.2.from; operand = m.operand; to = m.place; net = at.0; is_output = at.2.is_output; is_operand = at.1 }
 
 -- ---- a cell that drives is met
 
-meets_passing : (w : Walk) (r : Role) → is_passing r ≡ true → meets_register w r ≡ true
-meets_passing Operands r h = h
-meets_passing Counting r h = h
-meets_passing Shown r h = refl
+carried_not_met : (w : Walk) → meets w CarriedOver ≡ true → ⊥
+carried_not_met Operands h = absurd (cc)
+carried_not_met Counting h = absurd (cc)
+carried_not_met Registers h = absurd (cc)
 
 driven_at_0 : (n : Netlist) (c p i b : ℕ) → p ≡ 0 → output_at (cell_at n c) p i ≡ Some b → output_at (cell_at n c) 0 i ≡ Some b
 driven_at_0 n c p i b e h = subst (λ (q : ℕ). output_at (cell_at n c) q i ≡ Some b) e h
 
-drives_met_by : (w : Walk) (n : Netlist) (c b : ℕ) (role : Role) (v : DrivesNet n c b) → role_at n c ≡ role → IsWired n → HasOneOutput n → met_by w n (driver_of n b) ≡ Some c
-drives_met_by w n c b Combinational v e wired o = ap (met_by w n) (wired.by_output c v.output v.from b e v.is_output)
-drives_met_by w n c b ResetRegister v e wired o =
+gives_met_by : (w : Walk) (n : Netlist) (c b : ℕ) (role : Role) (v : GivesNet w n c b) → role_at n c ≡ role → IsWired n → HasOneOutput n → met_by w n (driver_of n b) ≡ Some c
+gives_met_by w n c b Combinational v e wired o =
+    ap (met_by w n) (wired.by_output c v.output v.from b e v.is_output) ∙ ap (λ (t : Bool). cond t (Some c) None) v.meets
+gives_met_by w n c b ResetRegister v e wired o =
     let at_0 : v.output ≡ 0 = o.only c v.output v.from b (λ f. absurd (cc)) v.is_output in
     let named : driver_of n b ≡ Register c v.from = wired.by_register c v.from b (inr e) (driven_at_0 n c v.output v.from b at_0 v.is_output) in
-    ap (met_by w n) named ∙ ap (λ (t : Bool). cond t (Some c) None) (meets_passing w (role_at n c) v.passing)
-drives_met_by w n c b MemoryBlock v e wired o =
+    ap (met_by w n) named ∙ ap (λ (t : Bool). cond t (Some c) None) v.meets
+gives_met_by w n c b PlainRegister v e wired o =
+    let at_0 : v.output ≡ 0 = o.only c v.output v.from b (λ f. absurd (cc)) v.is_output in
+    let named : driver_of n b ≡ Register c v.from = wired.by_register c v.from b (inl e) (driven_at_0 n c v.output v.from b at_0 v.is_output) in
+    ap (met_by w n) named ∙ ap (λ (t : Bool). cond t (Some c) None) v.meets
+gives_met_by w n c b MemoryBlock v e wired o =
     let at_0 : v.output ≡ 0 = o.only c v.output v.from b (λ f. absurd (cc)) v.is_output in
     let wide : 0 < width (cell_at n c) = o.has_bits c e in
     let k : ℕ = width (cell_at n c) in
@@ -96,20 +109,19 @@ drives_met_by w n c b MemoryBlock v e wired o =
     let low : v.from % k < k = omega arith in
     let placed : output_at (cell_at n c) 0 ((v.from / k) * k + v.from % k) ≡ Some b =
     subst (λ (i : ℕ). output_at (cell_at n c) 0 i ≡ Some b) (sym parts) (driven_at_0 n c v.output v.from b at_0 v.is_output) in
-    ap (met_by w n) (wired.by_read c (v.from / k) (v.from % k) b e low placed)
-drives_met_by w n c b PlainRegister v e wired o = absurd (let no_way : is_passing (role_at n c) ≡ false = ap is_passing e in let p : is_passing (role_at n c) ≡ true = v.passing in cc)
-drives_met_by w n c b CarriedOver v e wired o = absurd (let no_way : is_passing (role_at n c) ≡ false = ap is_passing e in let p : is_passing (role_at n c) ≡ true = v.passing in cc)
+    ap (met_by w n) (wired.by_read c (v.from / k) (v.from % k) b e low placed) ∙ ap (λ (t : Bool). cond t (Some c) None) v.meets
+gives_met_by w n c b CarriedOver v e wired o = absurd (carried_not_met w (sym (ap (meets w) e) ∙ v.meets))
 
-drives_met_at : (w : Walk) (n : Netlist) (c b : ℕ) (s : Src) → s ≡ Bit b → DrivesNet n c b → IsWired n → HasOneOutput n → met_at w n s ≡ Some c
+gives_met_at : (w : Walk) (n : Netlist) (c b : ℕ) (s : Src) → s ≡ Bit b → GivesNet w n c b → IsWired n → HasOneOutput n → met_at w n s ≡ Some c
 unfolding met_at
-drives_met_at w n c b s e v wired o = ap (met_at w n) e ∙ drives_met_by w n c b (role_at n c) v refl wired o
+gives_met_at w n c b s e v wired o = ap (met_at w n) e ∙ gives_met_by w n c b (role_at n c) v refl wired o
 
 pub drives_operand_met : (n : Netlist) (d c : ℕ) → IsWired n → HasOneOutput n → DrivesOperand n c d → IsMet Operands n d c
 drives_operand_met n d c wired o v = record {
   operand = v.operand;
   place = v.to;
   taken = refl;
-  is = drives_met_at Operands n c v.net (operand_at (cell_at n d) v.operand v.to) v.is_operand (record { passing = v.passing; output = v.output; from = v.from; is_output = v.is_output }) wired o;
+  is = gives_met_at Operands n c v.net (operand_at (cell_at n d) v.operand v.to) v.is_operand (record { meets = v.passing; output = v.output; from = v.from; is_output = v.is_output }) wired o;
 }
 
 pub drives_met : (n : Netlist) (d c : ℕ) → IsWired n → HasOneOutput n → Drives n c d → IsMet Counting n d c
@@ -117,7 +129,15 @@ drives_met n d c wired o v = record {
   operand = v.operand;
   place = v.to;
   taken = v.operand_counts;
-  is = drives_met_at Counting n c v.net (operand_at (cell_at n d) v.operand v.to) v.is_operand (record { passing = v.passing; output = v.output; from = v.from; is_output = v.is_output }) wired o;
+  is = gives_met_at Counting n c v.net (operand_at (cell_at n d) v.operand v.to) v.is_operand (record { meets = v.passing; output = v.output; from = v.from; is_output = v.is_output }) wired o;
+}
+
+pub shows_met : (n : Netlist) (d c : ℕ) → IsWired n → HasOneOutput n → ShowsOperand n c d → IsMet Registers n d c
+shows_met n d c wired o v = record {
+  operand = v.operand;
+  place = v.to;
+  taken = refl;
+  is = gives_met_at Registers n c v.net (operand_at (cell_at n d) v.operand v.to) v.is_operand (record { meets = ap is_plain v.plain; output = v.output; from = v.from; is_output = v.is_output }) wired o;
 }
 
 -- ---- what is met lies inside
@@ -128,14 +148,15 @@ role_inside n c h = elim (le_or_lt c (length n.cells)) [
   | inr l ↦ absurd (h (ap (λ (x : Cell). role_of x.kind) (get_or_past n.cells c no_cell l)))
 ]
 
+met_cell_inside : (w : Walk) (n : Netlist) (x c : ℕ) → (role_at n x ≡ CarriedOver → ⊥) → cond (meets w (role_at n x)) (Some x) None ≡ Some c → c < length n.cells
+met_cell_inside w n x c d h = subst (λ (y : ℕ). y < length n.cells) (some_if (meets w (role_at n x)) x c h).1 (role_inside n x d)
+
 met_by_inside : (w : Walk) (n : Netlist) (b c : ℕ) (g : Driver) → driver_of n b ≡ g → IsWired n → met_by w n g ≡ Some c → c < length n.cells
 met_by_inside w n b c (Input p i) e wired h = absurd (cc)
 met_by_inside w n b c Clock e wired h = absurd (cc)
-met_by_inside w n b c (Output x p i) e wired h = let same : x ≡ c = cc in subst (λ (y : ℕ). y < length n.cells) same (role_inside n x (λ f. absurd (let z : role_at n x ≡ Combinational = wired.output_role b x p i e in cc)))
-met_by_inside w n b c (Read x p i) e wired h = let same : x ≡ c = cc in subst (λ (y : ℕ). y < length n.cells) same (role_inside n x (λ f. absurd (let z : role_at n x ≡ MemoryBlock = wired.read_role b x p i e in cc)))
-met_by_inside w n b c (Register x i) e wired h =
-    let both : (meets_register w (role_at n x) ≡ true) × (x ≡ c) = some_if (meets_register w (role_at n x)) x c h in
-    subst (λ (y : ℕ). y < length n.cells) both.1 (role_inside n x (λ f. elim (wired.register_role b x i e) [ inl p ↦ absurd (cc) | inr r ↦ absurd (cc) ]))
+met_by_inside w n b c (Output x p i) e wired h = met_cell_inside w n x c (λ f. absurd (let z : role_at n x ≡ Combinational = wired.output_role b x p i e in cc)) h
+met_by_inside w n b c (Read x p i) e wired h = met_cell_inside w n x c (λ f. absurd (let z : role_at n x ≡ MemoryBlock = wired.read_role b x p i e in cc)) h
+met_by_inside w n b c (Register x i) e wired h = met_cell_inside w n x c (λ f. elim (wired.register_role b x i e) [ inl p ↦ absurd (cc) | inr r ↦ absurd (cc) ]) h
 
 pub met_inside : (w : Walk) (n : Netlist) (s : Src) (c : ℕ) → IsWired n → met_at w n s ≡ Some c → c < length n.cells
 unfolding met_at

@@ -3,5 +3,3 @@ pub mod Walks
 pub mod Closing
 pub mod Listing
 pub mod Planned
-pub mod SourcesSet
-pub mod Ready

@@ -1,5 +1,5 @@
 -- The cells that a walk over the operand bits of a cell meets.
-use Rattle.std.specs.Prelude.{ℕ, ◌<◌, ◌≡◌, ◌⊎◌, Bool, true, List, get_or, Option, Some, None, if◌then◌else◌}
+use Rattle.std.specs.Prelude.{ℕ, ◌<◌, ◌≡◌, Bool, true, List, get_or, Option, Some, None, if◌then◌else◌}
 use Rattle.cif_defs.specs.Cells.{Cell}
 use Rattle.cif_defs.specs.Loop.{counts, is_passing}
 use Rattle.cif_defs.specs.Netlist.{Netlist, cell_at, driver_of, operand_at, role_at}
@@ -9,26 +9,27 @@ use Rattle.cif_defs.specs.declared.nets.Driver.{Driver}
 use Rattle.cif_defs.specs.declared.nets.Driver.TheVariants.{Input, Output, Register, Read, Clock}
 use Rattle.cif_defs.specs.declared.nets.Src.{Src}
 use Rattle.cif_defs.specs.declared.nets.Src.TheVariants.{Bit, Zero, One}
+use Rattle.cif_shown.specs.Shown.{is_plain}
 use Rattle.cif_parts.specs.declared.walk.Walk.{Walk}
-use Rattle.cif_parts.specs.declared.walk.Walk.TheVariants.{Operands, Counting, Shown}
+use Rattle.cif_parts.specs.declared.walk.Walk.TheVariants.{Operands, Counting, Registers}
 
 -- whether a walk takes an operand of a cell
 abbrev pub takes_operand : Walk → Role → Cell → ℕ → Bool
 takes_operand Operands r c p = true
 takes_operand Counting r c p = counts r c p
-takes_operand Shown r c p = counts r c p
+takes_operand Registers r c p = true
 
--- whether it meets registers of this role
-abbrev pub meets_register : Walk → Role → Bool
-meets_register Operands r = is_passing r
-meets_register Counting r = is_passing r
-meets_register Shown r = true
+-- whether it meets cells of this role
+abbrev pub meets : Walk → Role → Bool
+meets Operands r = is_passing r
+meets Counting r = is_passing r
+meets Registers r = is_plain r
 
 -- the cell that it meets at a bit with this driver
 abbrev pub met_by : Walk → Netlist → Driver → Option ℕ
-met_by w n (Output c p i) = Some c
-met_by w n (Read c r i) = Some c
-met_by w n (Register c i) = if meets_register w (role_at n c) then Some c else None
+met_by w n (Output c p i) = if meets w (role_at n c) then Some c else None
+met_by w n (Read c r i) = if meets w (role_at n c) then Some c else None
+met_by w n (Register c i) = if meets w (role_at n c) then Some c else None
 met_by w n (Input p i) = None
 met_by w n Clock = None
 
@@ -65,9 +66,3 @@ pub record IsMetFrom (w : Walk) (n : Netlist) (chosen : List Bool) (end c : ℕ)
   pub before : from < end
   pub is_chosen : bit chosen from ≡ true
   pub met : IsMet w n from c
-
--- cell c is one of the first cells of a list, so many, or is met from one of them
-pub record IsNeededBy (n : Netlist) (cells : List ℕ) (end c : ℕ) : Type 0 where
-  pub place : ℕ
-  pub before : place < end
-  pub needs : (c ≡ get_or cells place 0) ⊎ IsMet Shown n (get_or cells place 0) c

@@ -1,7 +1,7 @@
-//! A cycle worked out in pieces: the plan, which says for each part of a netlist which cells it owns and which it evaluates.
+//! A cycle worked out in pieces: the plan, which says for each part of a netlist which cells it owns, which it evaluates, and
+//! of which it needs what they store.
 //!
-//! The laws by which a part that evaluates its cells in order holds its piece, and by which tables that are right make a
-//! frame, stand in `proofs/`.
+//! The law by which tables that are right make a frame stands in `proofs/`.
 #![tactic(auto)]
 
 mod list;

@@ -61,6 +61,20 @@ fn push_others(netlist: &Netlist, marks: &[bool], cells: &mut Vec<u32>) -> Resul
     Ok(())
 }
 
+/// The marked cells of a levelled order, as they stand there.
+pub(crate) fn listed_in_order(
+    alloc: Global,
+    order: &[u32],
+    marks: &[bool],
+) -> Result<Vec<u32>, AllocError>
+    ensures { IfOk result (λ v. (n : NetlistData) → IsLevelled n order.now
+        → IsListed n order.now marks.now v.items (length order.now)) }
+{
+    let mut cells = Vec::new(alloc);
+    push_placed(order, marks, &mut cells)?;
+    Ok(cells)
+}
+
 /// The marked cells of a netlist: those of the levelled order first, as they stand there, and then the others, by their
 /// numbers.
 pub(crate) fn listed(

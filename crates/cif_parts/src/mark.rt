@@ -1,12 +1,10 @@
-// The marks of the cells that a part owns, and of those that it evaluates.
+// The marks of the cells that a part owns, of those that it evaluates, and of those of which it needs what they store.
 ghost use Rattle.std.specs.Prelude.{◌≡◌, ℕ, ◌<◌, ◌≤◌, true, length, IfOk};
 ghost use Rattle.cif_defs.specs.Accepted.{netlist_of};
 ghost use Rattle.cif_defs.specs.Loop.{IsLevelled};
-ghost use Rattle.cif_pieces.specs.Parts.{Evaluates, OwnsCell, owner as owner_of};
+ghost use Rattle.cif_pieces.specs.Parts.{Evaluates, Needs, OwnsCell, owner as owner_of};
 ghost use Rattle.cif_parts.specs.Closing.{IsClosed};
-ghost use Rattle.cif_parts.specs.Marking.{Adds, AreMarks};
-ghost use Rattle.cif_parts.specs.Walks.{IsMetFrom};
-ghost use Rattle.cif_parts.specs.declared.walk.Walk.TheVariants.{Operands};
+ghost use Rattle.cif_parts.specs.Marking.{AreMarks};
 
 use crate::walk::Walk;
 use cif_cells::Netlist;
@@ -43,20 +41,6 @@ pub(crate) fn owned_marks(
     Ok(marks)
 }
 
-/// Marks the passing cells that drive an operand bit of an owned cell.
-fn mark_fed(netlist: &Netlist, owned: &[bool], marks: &mut [bool])
-    requires { length marks.old ≡ length (netlist_of netlist.now).cells }
-    ensures { Adds marks.old marks.new
-        (IsMetFrom Operands (netlist_of netlist.now) owned.now (length (netlist_of netlist.now).cells)) }
-{
-    let count = netlist.cells().len() as u32;
-    for number in 0..count {
-        if bit_of(owned, number as usize) {
-            Walk::Operands.mark_met_from(netlist, number, marks);
-        }
-    }
-}
-
 /// Marks the passing cells from which a path leads to a marked cell, backwards along the levelled order.
 fn mark_leading(netlist: &Netlist, order: &[u32], marks: &mut [bool])
     requires levelled { IsLevelled (netlist_of netlist.now) order.now }
@@ -81,12 +65,13 @@ fn mark_evaluated(netlist: &Netlist, order: &[u32], owned: &[bool], marks: &mut 
     requires levelled { IsLevelled (netlist_of netlist.now) order.now }
     requires as_many { length owned.now ≡ length (netlist_of netlist.now).cells }
     requires same { marks.old ≡ owned.now }
-    ensures { (parts part : ℕ)
+    ensures marks { (parts part : ℕ)
         → AreMarks owned.now (length (netlist_of netlist.now).cells) (OwnsCell (netlist_of netlist.now) parts part)
         → AreMarks marks.new (length (netlist_of netlist.now).cells) (Evaluates (netlist_of netlist.now) parts part) }
+    ensures as_many { length marks.new ≡ length (netlist_of netlist.now).cells }
 {
     let _accepted = netlist.cells();
-    mark_fed(netlist, owned, marks);
+    Walk::Operands.mark_met_from_all(netlist, owned, marks);
     mark_leading(netlist, order, marks);
 }
 
@@ -99,11 +84,40 @@ pub(crate) fn evaluated_marks(
 ) -> Result<Vec<bool>, AllocError>
     requires levelled { IsLevelled (netlist_of netlist.now) order.now }
     requires as_many { length owned.now ≡ length (netlist_of netlist.now).cells }
-    ensures { IfOk result (λ m. (parts part : ℕ)
+    ensures marks { IfOk result (λ m. (parts part : ℕ)
         → AreMarks owned.now (length (netlist_of netlist.now).cells) (OwnsCell (netlist_of netlist.now) parts part)
         → AreMarks m.items (length (netlist_of netlist.now).cells) (Evaluates (netlist_of netlist.now) parts part)) }
+    ensures as_many { IfOk result (λ m. length m.items ≡ length (netlist_of netlist.now).cells) }
 {
     let mut marks = Vec::from_slice(alloc, owned)?;
     mark_evaluated(netlist, order, owned, &mut marks);
+    Ok(marks)
+}
+
+/// Marks besides the cells that a part evaluates the registers that these read.
+fn mark_needed(netlist: &Netlist, evaluated: &[bool], marks: &mut [bool])
+    requires as_many { length evaluated.now ≡ length (netlist_of netlist.now).cells }
+    requires same { marks.old ≡ evaluated.now }
+    ensures { (parts part : ℕ)
+        → AreMarks evaluated.now (length (netlist_of netlist.now).cells) (Evaluates (netlist_of netlist.now) parts part)
+        → AreMarks marks.new (length (netlist_of netlist.now).cells) (Needs (netlist_of netlist.now) parts part) }
+{
+    let _accepted = netlist.cells();
+    Walk::Registers.mark_met_from_all(netlist, evaluated, marks);
+}
+
+/// For each cell whether a part needs what it stores, from the marks of those that it evaluates.
+pub(crate) fn needed_marks(
+    alloc: Global,
+    netlist: &Netlist,
+    evaluated: &[bool],
+) -> Result<Vec<bool>, AllocError>
+    requires { length evaluated.now ≡ length (netlist_of netlist.now).cells }
+    ensures { IfOk result (λ m. (parts part : ℕ)
+        → AreMarks evaluated.now (length (netlist_of netlist.now).cells) (Evaluates (netlist_of netlist.now) parts part)
+        → AreMarks m.items (length (netlist_of netlist.now).cells) (Needs (netlist_of netlist.now) parts part)) }
+{
+    let mut marks = Vec::from_slice(alloc, evaluated)?;
+    mark_needed(netlist, evaluated, &mut marks);
     Ok(marks)
 }

@@ -1,5 +1,5 @@
 // The cells that drive the operand bits of a cell.
-ghost use Rattle.std.specs.Prelude.{◌≡◌, ◌<◌, ◌≤◌, true, length, Some, IfSome};
+ghost use Rattle.std.specs.Prelude.{◌≡◌, ◌<◌, length, Some, None, if◌then◌else◌};
 ghost use Rattle.cif_defs.specs.Accepted.{netlist_of};
 ghost use Rattle.cif_defs.specs.Cells.{Cell as CellData};
 ghost use Rattle.cif_defs.specs.Kinds.{role_of};
@@ -7,10 +7,11 @@ ghost use Rattle.cif_defs.specs.Loop.{counts as counts_at};
 ghost use Rattle.cif_defs.specs.Netlist.{IsWired, cell_at, role_at};
 ghost use Rattle.cif_defs.specs.declared.nets.Src.TheVariants.{Bit};
 ghost use Rattle.cif_parts.specs.Marking.{Adds};
-ghost use Rattle.cif_parts.specs.Walks.{IsMet, IsMetAmong, meets_register as meets_registers_of, met_at, takes_operand as takes_operands_of};
+ghost use Rattle.cif_parts.specs.Walks.{IsMet, IsMetAmong, IsMetFrom, meets as meets_of, met_at, takes_operand as takes_operands_of};
 
 use cif_cells::table::role;
 use cif_cells::{Cell, Driver, NetBit, Netlist, Role, Src};
+use cif_cycle::bit_of;
 
 /// What a walk over the operand bits of a cell looks for: cells that drive them.
 #[derive(Clone, Copy, Debug, Drop)]
@@ -19,8 +20,8 @@ pub(crate) enum Walk {
     Operands,
     /// The passing cells that drive operand bits that count.
     Counting,
-    /// All cells that drive operand bits that count.
-    Shown,
+    /// The registers without asynchronous reset that drive any operand bit.
+    Registers,
 }
 
 /// Whether the outputs of a cell follow this operand within the cycle.
@@ -50,18 +51,31 @@ impl Walk {
         ensures { result ≡ takes_operands_of self (role_of cell.now.kind) cell.now port }
     {
         match self {
-            Walk::Operands => true,
-            Walk::Counting | Walk::Shown => counts(cell, port),
+            Walk::Operands | Walk::Registers => true,
+            Walk::Counting => counts(cell, port),
         }
     }
 
-    /// Whether it meets registers of this role.
-    fn meets_register(self, role: Role) -> bool
-        ensures { result ≡ meets_registers_of self role }
+    /// Whether it meets cells of this role.
+    fn meets(self, role: Role) -> bool
+        ensures { result ≡ meets_of self role }
     {
         match self {
             Walk::Operands | Walk::Counting => role.is_passing(),
-            Walk::Shown => true,
+            Walk::Registers => matches!(role, Role::PlainRegister),
+        }
+    }
+
+    /// This cell, where it meets cells of its role.
+    fn met_cell(self, netlist: &Netlist, cell: u32) -> Option<u32>
+        requires { cell < length (netlist_of netlist.now).cells }
+        ensures { result ≡ (if meets_of self (role_at (netlist_of netlist.now) cell) then Some cell else None) }
+    {
+        let kind = cell_of(netlist, cell).kind();
+        if self.meets(role(kind)) {
+            Some(cell)
+        } else {
+            None
         }
     }
 
@@ -73,12 +87,10 @@ impl Walk {
         ensures { result ≡ met_at self (netlist_of netlist.now) (Bit bit) }
     {
         match netlist.driver(bit) {
-            Driver::Output { cell, .. } | Driver::Read { cell, .. } => Some(cell),
-            Driver::Register { cell, .. }
-                if self.meets_register(role(netlist.cells()[cell as usize].kind())) => {
-                Some(cell)
-            }
-            Driver::Register { .. } | Driver::Input { .. } | Driver::Clock => None,
+            Driver::Output { cell, .. } => self.met_cell(netlist, cell),
+            Driver::Read { cell, .. } => self.met_cell(netlist, cell),
+            Driver::Register { cell, .. } => self.met_cell(netlist, cell),
+            Driver::Input { .. } | Driver::Clock => None,
         }
     }
 
@@ -129,6 +141,20 @@ impl Walk {
         for port in 0..count {
             if self.takes_operand(cell, port) {
                 self.mark_met_among(netlist, cell.operand(port), marks);
+            }
+        }
+    }
+
+    /// Marks the cells that it meets at the operand bits of the cells that are chosen.
+    pub(crate) fn mark_met_from_all(self, netlist: &Netlist, chosen: &[bool], marks: &mut [bool])
+        requires { length marks.old ≡ length (netlist_of netlist.now).cells }
+        ensures { Adds marks.old marks.new
+            (IsMetFrom self (netlist_of netlist.now) chosen.now (length (netlist_of netlist.now).cells)) }
+    {
+        let count = netlist.cells().len() as u32;
+        for number in 0..count {
+            if bit_of(chosen, number as usize) {
+                self.mark_met_from(netlist, number, marks);
             }
         }
     }

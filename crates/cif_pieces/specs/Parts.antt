@@ -1,7 +1,8 @@
--- Which cells and net bits a part of a netlist owns, and which cells it evaluates.
+-- Which cells and net bits a part of a netlist owns, which cells it evaluates, and of which it needs what they store.
 use Rattle.std.specs.Prelude.{ℕ, ◌*◌, ◌/◌, ◌<◌, ◌≡◌, ◌⊎◌, true, List, ◌∷◌, length, Option, Some, None}
 use Rattle.cif_defs.specs.Loop.{DrivesAlong, is_passing}
 use Rattle.cif_defs.specs.Netlist.{Netlist, cell_at, driver_of, operand_at, output_at, role_at}
+use Rattle.cif_defs.specs.declared.kinds.Role.TheVariants.{PlainRegister}
 use Rattle.cif_defs.specs.declared.nets.Driver.{Driver}
 use Rattle.cif_defs.specs.declared.nets.Driver.TheVariants.{Input, Output, Register, Read, Clock}
 use Rattle.cif_defs.specs.declared.nets.Src.TheVariants.{Bit}
@@ -56,3 +57,30 @@ pub record Feeds (n : Netlist) (parts part c : ℕ) : Type 0 where
 -- a part evaluates the cells that it owns, and those from which a path leads to an operand of one of them
 abbrev pub Evaluates : Netlist → ℕ → ℕ → ℕ → Type 0
 Evaluates n parts part c = OwnsCell n parts part c ⊎ Feeds n parts part c
+
+-- and of them in their turn those that are passing
+abbrev pub EvaluatesInTurn : Netlist → ℕ → ℕ → ℕ → Type 0
+EvaluatesInTurn n parts part c = Evaluates n parts part c × (is_passing (role_at n c) ≡ true)
+
+-- ---- of what a part needs the stored words
+
+-- c is a register without asynchronous reset, and one of its output bits is an operand bit of d, whether that bit counts or not
+pub record ShowsOperand (n : Netlist) (c d : ℕ) : Type 0 where
+  pub plain : role_at n c ≡ PlainRegister
+  pub output : ℕ
+  pub from : ℕ
+  pub operand : ℕ
+  pub to : ℕ
+  pub net : ℕ
+  pub is_output : output_at (cell_at n c) output from ≡ Some net
+  pub is_operand : operand_at (cell_at n d) operand to ≡ Bit net
+
+-- a register that a cell reads which the part evaluates
+pub record IsRead (n : Netlist) (parts part c : ℕ) : Type 0 where
+  pub reader : ℕ
+  pub shows : ShowsOperand n c reader
+  pub evaluates : Evaluates n parts part reader
+
+-- a part needs what the cells store that it evaluates, and what the registers store that these read
+abbrev pub Needs : Netlist → ℕ → ℕ → ℕ → Type 0
+Needs n parts part c = Evaluates n parts part c ⊎ IsRead n parts part c

@@ -10,8 +10,20 @@ owned_by p = p.owned.items
 abbrev pub evaluated_by : PartCells → List ℕ
 evaluated_by p = p.evaluated.items
 
+abbrev pub passing_by : PartCells → List ℕ
+passing_by p = p.passing.items
+
+abbrev pub needed_by : PartCells → List ℕ
+needed_by p = p.needed.items
+
 abbrev pub plan_seen : Inside → PlanOf
-plan_seen p = record { parts = length p.parts.items; owned = map owned_by p.parts.items; evaluated = map evaluated_by p.parts.items }
+plan_seen p = record {
+  parts = length p.parts.items;
+  owned = map owned_by p.parts.items;
+  evaluated = map evaluated_by p.parts.items;
+  passing = map passing_by p.parts.items;
+  needed = map needed_by p.parts.items;
+}
 
 -- there are 1 to 64 parts
 pub record HoldsPlan (p : Inside) : Type 0 where

@@ -1,7 +1,7 @@
-// Plans: which cells each part owns, and which it evaluates.
+// Plans: which cells each part owns, which it evaluates, and of which it needs what they store.
 ghost use Rattle.std.specs.Prelude.{◌≡◌, ◌<◌, ◌≤◌, [], get_or, length, map, vec_len};
 ghost use Rattle.cif_pieces.specs.Plans.{IsCounted};
-ghost use Rattle.cif_pieces.specs.PlanView.{owned_by, evaluated_by};
+ghost use Rattle.cif_pieces.specs.PlanView.{owned_by, evaluated_by, passing_by, needed_by};
 
 use std::marker::Model;
 
@@ -12,9 +12,15 @@ pub struct PartCells {
     pub owned: Vec<u32>,
     /// Those that it evaluates, the owned ones among them.
     pub evaluated: Vec<u32>,
+    /// The passing ones among these, in the order of evaluation.
+    pub passing: Vec<u32>,
+    /// Those of which it needs what they store: those that it evaluates, and the registers without asynchronous reset that
+    /// these read.
+    pub needed: Vec<u32>,
 }
 
-/// For each of 1 to 64 parts the cells that it owns and the cells that it evaluates.
+/// For each of 1 to 64 parts the cells that it owns, those that it evaluates, the passing ones among these, and those of
+/// which it needs what they store.
 #[derive(Debug, Drop)]
 pub struct Plan {
     parts: Vec<PartCells>,
@@ -40,6 +46,8 @@ impl Plan {
         ensures parts { result.parts ≡ vec_len parts }
         ensures owned { result.owned ≡ map owned_by parts.items }
         ensures evaluated { result.evaluated ≡ map evaluated_by parts.items }
+        ensures passing { result.passing ≡ map passing_by parts.items }
+        ensures needed { result.needed ≡ map needed_by parts.items }
     {
         Plan { parts }
     }
@@ -66,5 +74,22 @@ impl Plan {
         ensures { result.now ≡ get_or self.now.evaluated part [] }
     {
         &self.parts[part as usize].evaluated
+    }
+
+    /// The passing cells that a part evaluates, in the order of evaluation.
+    pub fn passing(&self, part: u32) -> &[u32]
+        requires { part < self.now.parts }
+        ensures { result.now ≡ get_or self.now.passing part [] }
+    {
+        &self.parts[part as usize].passing
+    }
+
+    /// The cells of which a part needs what they store: those that it evaluates, and the registers without asynchronous
+    /// reset that these read.
+    pub fn needed(&self, part: u32) -> &[u32]
+        requires { part < self.now.parts }
+        ensures { result.now ≡ get_or self.now.needed part [] }
+    {
+        &self.parts[part as usize].needed
     }
 }
