@@ -5,7 +5,7 @@ use Rattle.cif_pieces.specs.declared.piece.PartDone.TheInside.{Inside}
 abbrev pub piece_seen : Inside → PieceOf
 piece_seen p = piece_of p.case.value p.cycle p.part p.parts
 
--- there is such a piece, and the tables hold what its part owns
+-- there is such a piece, and the tables hold it
 pub record HoldsPart (p : Inside) : Type 0 where
   pub is : IsPiece (piece_seen p)
-  pub holds : HoldsPiece (piece_seen p) p.bits.values.items p.bits.taints.items p.bits.stored.values.items p.bits.stored.taints.items p.bits.stored.flags.items
+  pub holds : HoldsPiece (piece_seen p) p.bits

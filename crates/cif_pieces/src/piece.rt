@@ -9,12 +9,14 @@ ghost use Rattle.cif_pieces.specs.Pieces.{HoldsPiece, IsPiece, piece_of};
 
 use cif_cells::NetBit;
 use cif_cycle::{StateWord, StoredWords, bit_of};
+use cif_inputs::Inputs;
 use cif_seq::Case;
 use cif_stimulus::Pair;
 use std::marker::Model;
 use std::sync::Arc;
 
-/// Tables with a place for each net bit and for each cell. Only the places that a part owns count.
+/// Tables with a place for each net bit and for each cell, of which only the places that a part owns count, and the cursor
+/// over the stimulus.
 #[derive(Drop)]
 pub struct OwnedBits {
     /// The values of the net bits.
@@ -23,6 +25,10 @@ pub struct OwnedBits {
     pub taints: Vec<bool>,
     /// What the cells store.
     pub stored: StoredWords,
+    /// For each cell whether it may store something else next.
+    pub due: Vec<bool>,
+    /// The cursor over the stimulus, at the cycle.
+    pub inputs: Inputs,
 }
 
 /// What one part owns of the frame of a cycle. Contracts see it as the case, the cycle, the part and the number of parts:
@@ -62,9 +68,7 @@ impl PartDone {
     /// The piece of a part at a cycle, among 1 to 64 parts, from what the part owns of that frame. It takes no memory.
     pub fn of(case: Arc<Case>, cycle: u64, part: u32, parts: u32, bits: OwnedBits) -> PartDone
         requires is { IsPiece (piece_of case.value cycle part parts) }
-        requires holds { HoldsPiece (piece_of case.value cycle part parts)
-            bits.values.items bits.taints.items bits.stored.values.items bits.stored.taints.items
-            bits.stored.flags.items }
+        requires holds { HoldsPiece (piece_of case.value cycle part parts) bits }
         ensures { result ≡ piece_of case.value cycle part parts }
     {
         PartDone {
@@ -98,6 +102,20 @@ impl PartDone {
         ensures piece { IsPiece self.now }
     {
         self.parts
+    }
+
+    /// What it holds of the frame, lent.
+    pub fn bits(&self) -> &OwnedBits
+        ensures { HoldsPiece self.now result.now }
+    {
+        &self.bits
+    }
+
+    /// What it holds of the frame.
+    pub fn into_bits(self) -> OwnedBits
+        ensures { HoldsPiece self result }
+    {
+        self.bits
     }
 
     /// The value and the taint of a net bit that the part owns.
