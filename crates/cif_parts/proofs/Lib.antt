@@ -5,3 +5,7 @@ pub mod Listings
 pub mod PartByPart
 pub mod Joined
 pub mod Examples
+pub mod Covered
+pub mod Placing
+pub mod Beginning
+pub mod Done

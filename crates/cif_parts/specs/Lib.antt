@@ -3,3 +3,4 @@ pub mod Walks
 pub mod Closing
 pub mod Listing
 pub mod Planned
+pub mod Running

@@ -7,6 +7,8 @@
 mod list;
 mod mark;
 mod planning;
+mod run;
 mod walk;
 
 pub use planning::plan;
+pub use run::run_part;
