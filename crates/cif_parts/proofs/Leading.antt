@@ -8,7 +8,7 @@ use Rattle.cif_defs.specs.Words.{bit}
 use Rattle.cif_defs.proofs.Orders.{has_place, place_in}
 use Rattle.cif_defs.proofs.WordLaws.{le_or_lt}
 use Rattle.cif_level.proofs.Driving.{HasOneOutput}
-use Rattle.cif_pieces.specs.Parts.{DrivesOperand, Evaluates, LeadsTo, Needs, OwnsCell}
+use Rattle.cif_pieces.specs.Parts.{DrivesOperand, Evaluates, Feeds, LeadsTo, Needs, OwnsCell}
 use Rattle.cif_parts.specs.Closing.{IsClosed}
 use Rattle.cif_parts.specs.Marking.{Adds, AreMarks}
 use Rattle.cif_parts.specs.Walks.{IsMet, IsMetFrom}
@@ -88,6 +88,14 @@ close n order parts part c d marks o h p m v =
 head_passes : (n : Netlist) (e d : ℕ) (ds : List ℕ) → DrivesAlong n e (d ∷ ds) → is_passing (role_at n d) ≡ true
 head_passes n e d [] v = v.passing
 head_passes n e d (x ∷ xs) v = v.0.passing
+
+-- a cell from which a path leads to an operand is passing
+pub feeds_passing : (n : Netlist) (parts part c : ℕ) → Feeds n parts part c → is_passing (role_at n c) ≡ true
+feeds_passing n parts part c h = leads_passing h.last h.drives.passing h.leads
+  where
+    leads_passing : (last : ℕ) → is_passing (role_at n last) ≡ true → LeadsTo n c last → is_passing (role_at n c) ≡ true
+    leads_passing last p (inl e) = ap (λ (x : ℕ). is_passing (role_at n x)) e ∙ p
+    leads_passing last p (inr x) = head_passes n last c x.0 x.1
 
 along_marked : (n : Netlist) (order : List ℕ) (parts part last c : ℕ) (ds : List ℕ) (marks : List Bool) → IsLevelled n order → IsClosed n order parts part 0 marks → is_passing (role_at n last) ≡ true → bit marks last ≡ true → DrivesAlong n last (c ∷ ds) → bit marks c ≡ true
 along_marked n order parts part last c [] marks o h p m v = close n order parts part c last marks o h p m v

@@ -10,3 +10,7 @@ pub mod Copying
 pub mod Outputs
 pub mod Taking
 pub mod TakingOver
+pub mod Covered
+pub mod Placing
+pub mod Beginning
+pub mod Done

@@ -6,7 +6,9 @@ mod join;
 mod list;
 mod mark;
 mod planning;
+mod run;
 mod walk;
 
 pub use join::assemble;
 pub use planning::plan;
+pub use run::run_part;
