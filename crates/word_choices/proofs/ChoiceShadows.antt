@@ -192,5 +192,5 @@ pub demux_end : (n m j : ℕ) (p q r : Shadowed) → 1 ≤ n → j ≡ m → IsS
 demux_end n m j p q r some last g =
     exact_by (n * 2 ^ m) r.taint (tree_bit (block_tree n m) m) (λ us. demux_word n m (operand us 0) (operand us 1)) (two_values n m p q) (two_taints n m p q) (demux_last n m j _ _ r last g).taint
     (λ us e i h.
-        let widths : map length us ≡ n ∷ m ∷ [] = e ∙ two_widths n m p.value q.value in
-        demux_gives n m us some (operand_by us (n ∷ m ∷ []) 0 n widths refl).1 (operand_by us (n ∷ m ∷ []) 1 m widths refl).1 i h)
+    let widths : map length us ≡ n ∷ m ∷ [] = e ∙ two_widths n m p.value q.value in
+    demux_gives n m us some (operand_by us (n ∷ m ∷ []) 0 n widths refl).1 (operand_by us (n ∷ m ∷ []) 1 m widths refl).1 i h)
