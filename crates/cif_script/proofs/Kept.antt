@@ -14,7 +14,7 @@ use Rattle.cif_text.proofs.BoolTests.{both, and_true}
 use Rattle.cif_script.specs.LineForms.{line_said}
 use Rattle.cif_script.specs.Scripts.{ScriptData, IsKept, is_line_inside, is_inside, session_limit}
 use Rattle.cif_script.specs.ScriptText.{is_begun, with_line, asked, shown, show_read, wires_with, wire_number, may_stand, said_read, if_said, line_read, lines_read, no_sessions, ◌and_then◌}
-use Rattle.cif_script.specs.ShownWires.{IsWireOf}
+use Rattle.cif_script.specs.ShownWires.{IsWireOf, AreApart}
 use Rattle.cif_script.specs.declared.fault.ScriptFault.{ScriptFault}
 use Rattle.cif_script.specs.declared.fault.ScriptFault.TheVariants.{BadLine, TooManySessions, SameName}
 use Rattle.cif_script.specs.declared.form.Said.{Said}
@@ -23,7 +23,7 @@ use Rattle.cif_script.specs.declared.session.Line.{Line}
 use Rattle.cif_script.specs.declared.session.Line.TheVariants.{At, Next, Newest, Show}
 use Rattle.cif_script.specs.declared.session.SessionScript.{SessionScript}
 use Rattle.cif_script.proofs.FoundWires.{wire_is, all_wires}
-use Rattle.cif_script.proofs.Places.{number_inside, wires_more}
+use Rattle.cif_script.proofs.Places.{number_inside, wires_more, apart_with}
 
 -- ---- more wires
 
@@ -92,6 +92,7 @@ session_kept script name h m = record {
 pub record IsSound (raw : Raw) (script : ScriptData) : Type 0 where
   pub kept : IsKept script
   pub found : All (IsWireOf raw) script.wires
+  pub apart : AreApart script.wires
 
 begun_sound : (raw : Raw) (script : ScriptData) (number : ℕ) (name : List ℕ) (out : ScriptData) (again many : Bool) → nat_le session_limit (length script.sessions) ≡ many → IsSound raw script
     → (if again then Err (SameName number) else if many then Err TooManySessions else Ok (with_session script name)) ≡ Ok out → IsSound raw out
@@ -99,15 +100,15 @@ begun_sound raw script number name out true many m h e = absurd (cc)
 begun_sound raw script number name out false true m h e = absurd (cc)
 begun_sound raw script number name out false false m h e =
     let same : with_session script name ≡ out = cc in
-    rw (← same) (record { kept = session_kept script name h.kept m; found = h.found })
+    rw (← same) (record { kept = session_kept script name h.kept m; found = h.found; apart = h.apart })
 
 line_sound : (raw : Raw) (l : Line) (script out : ScriptData) → IsSound raw script → is_line_inside (length script.wires) l ≡ true → asked l script ≡ out → IsSound raw out
-line_sound raw l script out h i same = rw (← same) (record { kept = asked_kept l script h.kept i; found = h.found })
+line_sound raw l script out h i same = rw (← same) (record { kept = asked_kept l script h.kept i; found = h.found; apart = h.apart })
 
 found_sound : (raw : Raw) (script : ScriptData) (number : ℕ) (name : List ℕ) (found : FoundOf) (out : ScriptData) → found_of raw name ≡ found → IsSound raw script → show_read script number found ≡ Ok out → IsSound raw out
 found_sound raw script number name (a_wire w) out f h e =
     let same : shown w script ≡ out = cc in
-    rw (← same) (record { kept = shown_kept w script h.kept; found = all_wires raw script.wires w h.found (wire_is raw name w f) })
+    rw (← same) (record { kept = shown_kept w script h.kept; found = all_wires raw script.wires w h.found (wire_is raw name w f); apart = apart_with script.wires w h.apart })
 found_sound raw script number name not_two_valued out f h e = absurd (cc)
 found_sound raw script number name missing out f h e = absurd (cc)
 
@@ -145,4 +146,4 @@ all_sound raw script (l ∷ ls) out h e =
     all_sound raw went.0 ls out (line_read_sound raw script l went.0 h went.1.0) went.1.1
 
 pub read_sound : (raw : Raw) (ls : List NumberedLine) (out : ScriptData) → lines_read raw no_sessions ls ≡ Ok out → IsSound raw out
-read_sound raw ls out e = all_sound raw no_sessions ls out (record { kept = record { few = omega arith; inside = refl }; found = All-nil (IsWireOf raw) }) e
+read_sound raw ls out e = all_sound raw no_sessions ls out (record { kept = record { few = omega arith; inside = refl }; found = All-nil (IsWireOf raw); apart = λ i below. absurd (omega arith) }) e

@@ -1,7 +1,10 @@
--- Places of names among wires.
-use Rattle.std.specs.Prelude.{ℕ, ◌+◌, ◌<◌, ◌≤◌, ◌≡◌, ◌==◌, nat_lt, Bool, true, false, not, List, [], ◌∷◌, ◌++◌, length, bytes_eq, Option, Some, None, is_some, unwrap_or, refl, if◌then◌else◌}
+-- Places of names among wires, of which no two have one name.
+use Rattle.std.specs.Prelude.{ℕ, ◌+◌, ◌<◌, ◌≤◌, ◌≡◌, ◌⊎◌, ◌==◌, nat_lt, Bool, true, false, not, List, [], ◌∷◌, ◌++◌, length, bytes_eq, Option, Some, None, is_some, unwrap_or, refl, if◌then◌else◌}
 use Rattle.std.specs.List.{position_or_len}
-use Rattle.std.proofs.Common.{arith, ap, ◌∙◌, cond}
+use Rattle.std.proofs.Common.{arith, sym, ap, subst, inl, inr, ◌∙◌, cond}
+use Rattle.std.proofs.Math.ListN.{get_or-append}
+use Rattle.std.proofs.Math.Seq.{get_or-append_seam}
+use Rattle.std.proofs.lemmas.Slice.Eq.{bytes_eq-Decides}
 use Rattle.std.proofs.lemmas.List.{length-append}
 use Rattle.std.proofs.lemmas.List.Folds.{position_or_len_push}
 use Rattle.std.proofs.lemmas.List.Quantifiers.{position-Some}
@@ -9,7 +12,9 @@ use Rattle.std.proofs.lemmas.List.Sums.{prefix_len-le-length}
 use Rattle.std.proofs.lemmas.Bool.Decides.{nat_tests}
 use Rattle.cif_defs.specs.Netlist.{no_wire}
 use Rattle.cif_defs.specs.declared.nets.Wire.{Wire}
+use Rattle.cif_script.specs.Scripts.{wire_at}
 use Rattle.cif_script.specs.ScriptText.{place_of, wires_with, wire_number}
+use Rattle.cif_script.specs.ShownWires.{AreApart}
 
 -- a place is that of a wire
 pub place_inside : (wires : List Wire) (name : List ℕ) (k : ℕ) → place_of wires name ≡ Some k → k < length wires
@@ -58,3 +63,39 @@ place_push wires w name =
     ap (λ k. cond (nat_lt k (length (wires ++ w ∷ []))) (Some k) None) (position_or_len_push p wires w)
     ∙ ap (λ m. cond (nat_lt (cond (position_or_len p wires == length wires) (length wires + cond (p w) 0 1) (position_or_len p wires)) m) (Some (cond (position_or_len p wires == length wires) (length wires + cond (p w) 0 1) (position_or_len p wires))) None) (length-append wires (w ∷ []))
     ∙ place_by (position_or_len p wires) (length wires) (p w) (prefix_len-le-length (λ x. not (p x)) wires)
+
+-- ---- no two wires have one name
+
+split_at : (i n : ℕ) → i < n + 1 → (i < n) ⊎ (i ≡ n)
+split_at i n h = by_test (nat_lt i n) refl where
+  by_test : (t : Bool) → nat_lt i n ≡ t → (i < n) ⊎ (i ≡ n)
+  by_test true e = inl (grind (arith, nat_tests))
+  by_test false e = inr (grind (arith, nat_tests))
+
+same_bytes : (name : List ℕ) → bytes_eq name name ≡ true
+same_bytes name = (bytes_eq-Decides name name).1 refl
+
+earlier_apart : (wires : List Wire) (w : Wire) (i : ℕ) → i < length wires → place_of wires (wire_at wires i).name ≡ Some i → place_of (wires ++ w ∷ []) (wire_at (wires ++ w ∷ []) i).name ≡ Some i
+earlier_apart wires w i below h =
+    ap (λ (x : Wire). place_of (wires ++ w ∷ []) x.name) (get_or-append wires (w ∷ []) no_wire i below)
+    ∙ place_push wires w (wire_at wires i).name
+    ∙ ap (λ place. place_after place (bytes_eq w.name (wire_at wires i).name) (length wires)) h
+
+last_apart : (wires : List Wire) (w : Wire) → place_of wires w.name ≡ None → place_of (wires ++ w ∷ []) (wire_at (wires ++ w ∷ []) (length wires)).name ≡ Some (length wires)
+last_apart wires w none =
+    ap (λ (x : Wire). place_of (wires ++ w ∷ []) x.name) (get_or-append_seam wires w [] no_wire)
+    ∙ place_push wires w w.name
+    ∙ ap (λ place. place_after place (bytes_eq w.name w.name) (length wires)) none
+    ∙ ap (λ b. place_after None b (length wires)) (same_bytes w.name)
+
+apart_push : (wires : List Wire) (w : Wire) → AreApart wires → place_of wires w.name ≡ None → AreApart (wires ++ w ∷ [])
+apart_push wires w h none i below = elim (split_at i (length wires) (let e = length-append wires (w ∷ []) in omega arith)) [
+  | inl l ↦ earlier_apart wires w i l (h i l)
+  | inr e ↦ subst (λ k. place_of (wires ++ w ∷ []) (wire_at (wires ++ w ∷ []) k).name ≡ Some k) (sym e) (last_apart wires w none)
+]
+
+pub apart_with : (wires : List Wire) (w : Wire) → AreApart wires → AreApart (wires_with wires w)
+apart_with wires w h = by_place (place_of wires w.name) refl where
+  by_place : (place : Option ℕ) → place_of wires w.name ≡ place → AreApart (if is_some place then wires else wires ++ w ∷ [])
+  by_place None e = apart_push wires w h e
+  by_place (Some k) e = h

@@ -5,7 +5,7 @@ ghost use Rattle.cif_defs.specs.Text.{words_of, lines_of};
 ghost use Rattle.cif_stimulus.specs.StimulusText.{numbered};
 ghost use Rattle.cif_script.specs.ScriptText.{is_title as is_title_of, no_sessions, lines_read, script_of};
 ghost use Rattle.cif_script.specs.Seen.{IsFirst, so_far};
-ghost use Rattle.cif_script.specs.ShownWires.{IsWireOf};
+ghost use Rattle.cif_script.specs.ShownWires.{IsWireOf, AreApart};
 
 use crate::fault::ScriptFault;
 use crate::reader::Reader;
@@ -78,6 +78,7 @@ fn read_lines<'a>(
 pub fn read_sessions(alloc: Global, netlist: &Netlist, bytes: &[u8]) -> Result<Script, ScriptFault>
     ensures ok { IfOk result (λ s. script_of netlist.now bytes.now ≡ Ok s) }
     ensures wires { IfOk result (λ s. All (IsWireOf netlist.now) s.wires) }
+    ensures apart { IfOk result (λ s. AreApart s.wires) }
     ensures err { IfErr result (IsFirst (script_of netlist.now bytes.now)) }
 {
     let Some(title) = next_line(bytes, 1) else {

@@ -2,7 +2,7 @@ use Rattle.std.proofs.Common.{sym, ap, subst, ◌∙◌, refl, Ok}
 use Rattle.std.specs.List.{All}
 use Rattle.std.proofs.lemmas.Result.{err_from_is_err_and}
 use Rattle.cif_script.specs.Scripts.{ScriptData}
-use Rattle.cif_script.specs.ShownWires.{IsWireOf}
+use Rattle.cif_script.specs.ShownWires.{IsWireOf, AreApart}
 use Rattle.cif_script.proofs.Kept.{read_sound}
 use Rattle.cif_script.proofs.Readings.{all_skipped, untitled, stopped, too_large, all_read}
 use Rattle.cif_script.proofs.read.read_sessions.Goals as goal
@@ -35,3 +35,7 @@ returns-clause-ok c =
 pub returns-clause-wires : goal.returns-clause-wires
 returns-clause-wires c =
     subst (λ (script : ScriptData). All (IsWireOf c.args.netlist.now) script.wires) (sym c.finish-script.ensures) (read_sound c.args.netlist.now _ _ c.in_ok-reader.ensures.ok).found
+
+pub returns-clause-apart : goal.returns-clause-apart
+returns-clause-apart c =
+    subst (λ (script : ScriptData). AreApart script.wires) (sym c.finish-script.ensures) (read_sound c.args.netlist.now _ _ c.in_ok-reader.ensures.ok).apart
