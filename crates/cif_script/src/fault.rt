@@ -1,7 +1,7 @@
 // Why a text isn't read as a script.
 
 use cif_bits::NoMemory;
-use std::alloc::{AllocError, AllocFailed};
+use std::alloc::AllocFailed;
 use thiserror::Error;
 
 /// Why a text gives no script. Lines are counted from 1 on, with those that are passed over.
@@ -37,17 +37,6 @@ impl From<NoMemory> for ScriptFault {
     ghost from_gives = { λ _ e. e ≡ Memory };
 
     fn from(_error: NoMemory) -> Self {
-        ScriptFault::Memory
-    }
-}
-
-impl From<AllocError> for ScriptFault {
-    ghost use Rattle.std.specs.Prelude.{◌≡◌};
-    ghost use Rattle.cif_script.specs.declared.fault.ScriptFault.TheVariants.{Memory};
-
-    ghost from_gives = { λ _ e. e ≡ Memory };
-
-    fn from(_error: AllocError) -> Self {
         ScriptFault::Memory
     }
 }

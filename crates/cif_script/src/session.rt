@@ -4,7 +4,6 @@ ghost use Rattle.cif_script.specs.ScriptText.{with_line};
 
 use cif_bits::NoMemory;
 use cif_defs::Name;
-use std::alloc::Global;
 use std::marker::Model;
 
 /// A line of a session. The own cycle of a session is the one that it went to last.

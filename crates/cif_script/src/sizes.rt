@@ -1,6 +1,6 @@
 // What the lines of a script count.
 ghost use Rattle.std.specs.Prelude.{◌≡◌, ◌+◌, ◌*◌, ◌-◌, ◌^◌, length, min, nat_lt, true};
-ghost use Rattle.std.specs.List.{list_all, sum_by};
+ghost use Rattle.std.specs.List.{list_all};
 ghost use Rattle.cif_defs.specs.Text.{coded, coded_byte};
 ghost use Rattle.cif_script.specs.Scripts.{is_line_inside, is_inside, line_size as size_of_line, session_size as size_of_session, script_size as size_of_script, script_limit};
 

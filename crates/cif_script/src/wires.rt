@@ -1,5 +1,5 @@
 // The wires that lines show, by name.
-ghost use Rattle.std.specs.Prelude.{◌≡◌, IfOk, OnOk, [], IfSome, option_map};
+ghost use Rattle.std.specs.Prelude.{◌≡◌, IfOk, OnOk, []};
 ghost use Rattle.cif_script.specs.ScriptText.{wires_with, wire_number};
 ghost use Rattle.cif_script.specs.Seen.{IsTable, number_under};
 
