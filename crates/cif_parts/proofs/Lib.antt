@@ -4,8 +4,13 @@ pub mod Leading
 pub mod Listings
 pub mod PartByPart
 pub mod Joined
+pub mod Slotting
 pub mod Examples
 pub mod Covered
 pub mod Placing
 pub mod Beginning
 pub mod Done
+pub mod Copying
+pub mod Outputs
+pub mod Taking
+pub mod TakingOver

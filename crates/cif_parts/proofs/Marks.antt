@@ -1,9 +1,10 @@
 -- Marks that are added, one after another.
-use Rattle.std.specs.Prelude.{ℕ, zero, suc, ◌+◌, ◌-◌, ◌<◌, ◌≡◌, ◌==◌, ◌≢◌, ◌⊎◌, Bool, true, false, List, [], ◌∷◌, ◌++◌, length, slice_set, Option, Some, None, refl}
+use Rattle.std.specs.Prelude.{ℕ, zero, suc, ◌+◌, ◌-◌, ◌*◌, ◌<◌, ◌≤◌, ◌≡◌, ◌==◌, ◌≢◌, ◌⊎◌, Bool, true, false, List, [], ◌∷◌, ◌++◌, length, slice_set, Option, Some, None, refl}
 use Rattle.std.proofs.Common.{arith, ap, sym, ◌∙◌, inl, inr, subst, get_or-set_same, get_or-set_other, length-set, length-append}
 use Rattle.cif_defs.specs.Words.{bit}
 use Rattle.std.proofs.lemmas.Bool.Decides.{nat_tests}
 use Rattle.std.proofs.lemmas.List.{get_or_append_left, get_or-append_right}
+use Rattle.std.proofs.lemmas.Nat.{div_below, row_fits_turned}
 use Rattle.cif_defs.proofs.WordLaws.{le_or_lt}
 use Rattle.cif_pieces.specs.Parts.{owner}
 use Rattle.cif_parts.specs.Marking.{Adds, AreMarks}
@@ -112,3 +113,9 @@ owned_none cells parts part = record {
   each = λ c p. absurd (let l : c < 0 = p.0 in omega arith);
   only = λ c b. absurd (cc);
 }
+
+-- each cell is owned by one of the parts
+pub owner_below : (cells parts c : ℕ) → c < cells → 0 < parts → owner cells parts c < parts
+owner_below cells parts c l some =
+    let fits : c * parts + parts ≤ parts * cells = row_fits_turned c parts parts cells l (omega arith) in
+    div_below (c * parts) cells parts (omega arith) (omega arith)

@@ -142,7 +142,7 @@ shows_met n d c wired o v = record {
 
 -- ---- what is met lies inside
 
-role_inside : (n : Netlist) (c : ℕ) → (role_at n c ≡ CarriedOver → ⊥) → c < length n.cells
+pub role_inside : (n : Netlist) (c : ℕ) → (role_at n c ≡ CarriedOver → ⊥) → c < length n.cells
 role_inside n c h = elim (le_or_lt c (length n.cells)) [
   | inl l ↦ l
   | inr l ↦ absurd (h (ap (λ (x : Cell). role_of x.kind) (get_or_past n.cells c no_cell l)))

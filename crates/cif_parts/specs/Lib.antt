@@ -4,3 +4,4 @@ pub mod Closing
 pub mod Listing
 pub mod Planned
 pub mod Running
+pub mod Joining

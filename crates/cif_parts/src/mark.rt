@@ -1,5 +1,5 @@
 // The marks of the cells that a part owns, of those that it evaluates, and of those of which it needs what they store.
-ghost use Rattle.std.specs.Prelude.{◌≡◌, ℕ, ◌<◌, ◌≤◌, true, length, IfOk};
+ghost use Rattle.std.specs.Prelude.{◌≡◌, ℕ, ◌<◌, ◌≤◌, length, IfOk};
 ghost use Rattle.cif_defs.specs.Accepted.{netlist_of};
 ghost use Rattle.cif_defs.specs.Loop.{IsLevelled};
 ghost use Rattle.cif_pieces.specs.Parts.{Evaluates, Needs, OwnsCell, owner as owner_of};

@@ -1,7 +1,6 @@
 // The cells that drive the operand bits of a cell.
 ghost use Rattle.std.specs.Prelude.{◌≡◌, ◌<◌, length, Some, None, if◌then◌else◌};
 ghost use Rattle.cif_defs.specs.Accepted.{netlist_of};
-ghost use Rattle.cif_defs.specs.Cells.{Cell as CellData};
 ghost use Rattle.cif_defs.specs.Kinds.{role_of};
 ghost use Rattle.cif_defs.specs.Loop.{counts as counts_at};
 ghost use Rattle.cif_defs.specs.Netlist.{IsWired, cell_at, role_at};

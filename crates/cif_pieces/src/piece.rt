@@ -1,5 +1,5 @@
 // Pieces: what one part owns of the frame of a cycle.
-ghost use Rattle.std.specs.Prelude.{◌≡◌, ◌<◌, ◌≤◌, ◌||◌, false, [], get_or};
+ghost use Rattle.std.specs.Prelude.{◌≡◌, ◌<◌, false, [], get_or};
 ghost use Rattle.cif_defs.specs.Words.{bit};
 ghost use Rattle.cif_defs.specs.Run.{value};
 ghost use Rattle.cif_defs.specs.TaintRun.{taint, taint_state, state_value, state_taint};

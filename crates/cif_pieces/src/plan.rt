@@ -1,5 +1,5 @@
 // Plans: which cells each part owns, which it evaluates, and of which it needs what they store.
-ghost use Rattle.std.specs.Prelude.{◌≡◌, ◌<◌, ◌≤◌, [], get_or, length, map, vec_len};
+ghost use Rattle.std.specs.Prelude.{◌≡◌, ◌<◌, ◌≤◌, [], get_or, map, vec_len};
 ghost use Rattle.cif_pieces.specs.Plans.{IsCounted};
 ghost use Rattle.cif_pieces.specs.PlanView.{owned_by, evaluated_by, passing_by, needed_by};
 
