@@ -3,13 +3,11 @@
 use Rattle.std.specs.Prelude.{ℕ, suc, ◌<◌, ◌≡◌, ◌==◌, true, false, List, [], ◌∷◌, length, get_or, Some, refl}
 use Rattle.std.proofs.Common.{arith, sym, ap, subst, ◌∙◌, inl, inr}
 use Rattle.std.proofs.lemmas.Bool.Decides.{nat_tests}
-use Rattle.std.proofs.lemmas.List.{get_or_past}
 use Rattle.std.proofs.lemmas.List.Folds.{list_any_at}
 use Rattle.cif_defs.specs.Cells.{Cell}
 use Rattle.cif_defs.specs.Evaluation.{is_of_cell}
-use Rattle.cif_defs.specs.Kinds.{role_of}
 use Rattle.cif_defs.specs.Loop.{IsLevelled, counts, is_passing}
-use Rattle.cif_defs.specs.Netlist.{IsWired, Netlist, cell_at, driver_of, no_cell, operand_at, output_at, role_at}
+use Rattle.cif_defs.specs.Netlist.{IsWired, Netlist, cell_at, driver_of, operand_at, output_at, role_at}
 use Rattle.cif_defs.specs.declared.kinds.Role.{Role}
 use Rattle.cif_defs.specs.declared.kinds.Role.TheVariants.{CarriedOver, Combinational, MemoryBlock, PlainRegister, ResetRegister}
 use Rattle.cif_defs.specs.declared.nets.Driver.{Driver}
@@ -17,7 +15,6 @@ use Rattle.cif_defs.specs.declared.nets.Driver.TheVariants.{Input, Output, Regis
 use Rattle.cif_defs.specs.declared.nets.Src.TheVariants.{Bit}
 use Rattle.cif_defs.proofs.Exact.{or_true}
 use Rattle.cif_defs.proofs.Orders.{has_place, in_range, place_in}
-use Rattle.cif_defs.proofs.WordLaws.{le_or_lt}
 use Rattle.cif_shown.specs.Shown.{AreClosed, CoverBits}
 use Rattle.cif_pieces.specs.Parts.{Evaluates, EvaluatesInTurn, Needs, OwnsCell, OwnsNet, driver_owner, owner}
 use Rattle.cif_pieces.specs.Plans.{IsPlanOf, Lists, PlanOf}
@@ -25,6 +22,7 @@ use Rattle.cif_seq.specs.Cases.{CaseOf, net_of}
 use Rattle.cif_parts.specs.Running.{AreCells, covers, covers_by, is_among}
 use Rattle.cif_parts.proofs.Leading.{feeds_passing, feeds_on}
 use Rattle.cif_parts.proofs.Listings.{comes_placed}
+use Rattle.cif_parts.proofs.Meeting.{role_inside}
 
 -- ---- cells of a list
 
@@ -51,12 +49,6 @@ pub among_listed : (order : List ℕ) (P : ℕ → Type 0) (cells : List ℕ) (c
 among_listed order P cells c h e = let at = among_found cells c e in subst (λ (x : ℕ). P x) at.2 (h.only at.0 at.1)
 
 -- ---- cells that a part needs are cells of the netlist
-
-role_inside : (n : Netlist) (c : ℕ) → (role_at n c ≡ CarriedOver → ⊥) → c < length n.cells
-role_inside n c h = elim (le_or_lt c (length n.cells)) [
-  | inl l ↦ l
-  | inr l ↦ absurd (h (ap (λ (x : Cell). role_of x.kind) (get_or_past n.cells c no_cell l)))
-]
 
 evaluates_inside : (n : Netlist) (parts part c : ℕ) → Evaluates n parts part c → c < length n.cells
 evaluates_inside n parts part c (inl owns) = owns.0

@@ -22,17 +22,14 @@ use Rattle.cif_seq.specs.Stored.{IsStored, given_words}
 use Rattle.cif_seq.proofs.Moved.{rests_past}
 use Rattle.cif_seq.proofs.Slices.{same_function}
 use Rattle.cif_seq.proofs.StateWidths.{is_stored}
-use Rattle.cif_shown.specs.Shown.{AreResting, Given, Rests, taint_given, value_given}
+use Rattle.cif_shown.specs.Shown.{AreResting, Rests, taint_given, value_given}
 use Rattle.cif_pieces.specs.Parts.{driver_owner, owner}
 use Rattle.cif_pieces.specs.Pieces.{HaveEachPlace, IsRight, RestsIn, StoresRight}
 use Rattle.cif_pieces.specs.declared.piece.OwnedBits.{OwnedBits}
 use Rattle.cif_parts.specs.Joining.{HoldPieces}
+use Rattle.cif_parts.specs.Running.{given_in}
 use Rattle.cif_parts.proofs.Marks.{owner_below}
 use Rattle.cif_parts.proofs.Meeting.{role_inside}
-
--- what is given in a cycle
-abbrev pub given_in : Netlist → Stimulus → ℕ → Given
-given_in n s k = record { stored = state n s k; state = taint_state n s k; input = input_value n s k; taint_input = input_taint n s k; released = is_released s.lines }
 
 -- the values and the taints of a cycle are what is given under themselves
 value_given_in : (n : Netlist) (order : List ℕ) (s : Stimulus) (k b : ℕ) → IsWired n → IsLevelled n order → value n s k b ≡ value_given n (given_in n s k) (value n s k) b

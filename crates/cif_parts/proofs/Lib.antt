@@ -6,11 +6,11 @@ pub mod PartByPart
 pub mod Joined
 pub mod Slotting
 pub mod Examples
-pub mod Copying
-pub mod Outputs
-pub mod Taking
-pub mod TakingOver
 pub mod Covered
 pub mod Placing
 pub mod Beginning
 pub mod Done
+pub mod Copying
+pub mod Outputs
+pub mod Taking
+pub mod TakingOver

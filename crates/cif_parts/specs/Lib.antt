@@ -3,5 +3,5 @@ pub mod Walks
 pub mod Closing
 pub mod Listing
 pub mod Planned
-pub mod Joining
 pub mod Running
+pub mod Joining

@@ -1,5 +1,6 @@
 //! A cycle worked out in pieces: the plan, which says for each part of a netlist which cells it owns, which it evaluates, and
-//! of which it needs what they store; and the frame of a cycle, joined from the pieces of all parts.
+//! of which it needs what they store; the piece of a part, worked out from the frame of the cycle before; and the frame of a
+//! cycle, joined from the pieces of all parts.
 #![tactic(auto)]
 
 mod join;
