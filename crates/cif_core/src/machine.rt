@@ -119,7 +119,9 @@ impl<N: Run> Core<N> {
 
     /// The window, in cycles, from 2 to 64.
     pub fn window(&self) -> u32
-        ensures { result ≡ N.window }
+        ensures is { result ≡ N.window }
+        ensures least { 2 ≤ result }
+        ensures largest { result ≤ 64 }
     {
         self.window
     }
