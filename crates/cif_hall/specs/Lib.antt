@@ -1,0 +1,4 @@
+pub mod Workers
+pub mod Sessions
+pub mod Pinning
+pub mod Shown
