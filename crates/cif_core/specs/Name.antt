@@ -11,4 +11,4 @@ abbrev pub no_case : CaseOf
 no_case = record { raw = no_module; order = []; stimulus = record { cycles = 0; lines = [] } }
 
 abbrev pub no_plan : PlanOf
-no_plan = record { parts = 1; owned = [] ∷ []; evaluated = [] ∷ [] }
+no_plan = record { parts = 1; owned = [] ∷ []; evaluated = [] ∷ []; passing = [] ∷ []; needed = [] ∷ [] }

@@ -50,6 +50,7 @@ pub fn joined(
     ensures len { IsOk result → length slots.new ≡ length slots.old }
     ensures empty { IsOk result → AllEmpty slots.new }
 {
+    let _parts = plan.parts();
     let frame = assemble(alloc, case, &**plan, slots)?;
     Ok(Arc::new(alloc, frame)?)
 }
