@@ -1,15 +1,12 @@
 // The example `core-by-hand`, and what is answered after a failure.
 ghost use Rattle.std.specs.Prelude.{◌≡◌, ◌<◌, IfOk};
-ghost use Rattle.cif_seq.specs.Cases.{frame_of, net_of};
-ghost use Rattle.cif_pieces.specs.Pieces.{piece_of};
 ghost use Rattle.cif_pieces.specs.Plans.{IsPlanOf};
-ghost use Rattle.cif_core_examples.specs.Bare.{IsBare, bare_plan};
 
 use cif_cells::{Listed, Name, Netlist, Raw};
 use cif_core::{Claim, Core, Deposit, Look, Newest, Publish, Run};
-use cif_cycle::StoredWords;
 use cif_level::levels;
-use cif_pieces::{OwnedBits, PartCells, PartDone, Plan, Slots};
+use cif_parts::{plan, run_part};
+use cif_pieces::{PartDone, Plan, Slots};
 use cif_seq::{Case, Frame, first_frame, next_frame};
 use cif_stimulus::Stimulus;
 use std::alloc::{AllocError, Global};
@@ -31,8 +28,7 @@ fn bare_module(alloc: Global) -> Result<Raw, AllocError> {
 
 /// A case of five cycles without cells and net bits.
 fn bare_case(rt: &impl Abort, alloc: Global) -> Result<Case, Fail>
-    ensures bare { IfOk result IsBare }
-    ensures cycles { IfOk result (λ c. c.stimulus.cycles ≡ 5) }
+    ensures { IfOk result (λ c. c.stimulus.cycles ≡ 5) }
 {
     let module = bare_module(alloc)?;
     assert!(rt; module.is_in_order());
@@ -45,24 +41,21 @@ fn bare_case(rt: &impl Abort, alloc: Global) -> Result<Case, Fail>
     Ok(Case::new(alloc, netlist, order, stimulus)?)
 }
 
-/// The piece of the one part of such a case at a cycle.
-#[tactic(auto, using(crate::proofs::Bare::bare_holds))]
-fn bare_piece(alloc: Global, case: Arc<Case>, cycle: u64) -> PartDone
-    requires bare { IsBare case.value }
-    requires within { cycle < case.value.stimulus.cycles }
-    ensures { result ≡ piece_of case.value cycle 0 1 }
+/// The piece of part 0 at the cycle after the newest, or at cycle 0.
+fn open_piece<N: Run>(rt: &impl Abort, alloc: Global, core: &Core<N>) -> Result<PartDone, Fail>
+    ensures case { IfOk result (λ piece. piece.case ≡ N.case) }
+    ensures parts { IfOk result (λ piece. piece.parts ≡ N.plan.parts) }
 {
-    let stored = StoredWords {
-        values: Vec::new(alloc),
-        taints: Vec::new(alloc),
-        flags: Vec::new(alloc),
-    };
-    let bits = OwnedBits {
-        values: Vec::new(alloc),
-        taints: Vec::new(alloc),
-        stored,
-    };
-    PartDone::of(case, cycle, 0, 1, bits)
+    match core.newest()? {
+        Newest::Found(frame) => {
+            let cycle = frame.cycle();
+            assert!(rt; cycle < 4);
+            assert!(rt; cycle + 1 < core.case().cycles());
+            Ok(run_part(alloc, core.case(), core.plan(), 0, Some(&*frame))?)
+        }
+        Newest::NoneYet => Ok(run_part(alloc, core.case(), core.plan(), 0, None)?),
+        Newest::Failed => panic!(rt; "a failure"),
+    }
 }
 
 /// The frame of cycle 0, or of the cycle after the newest.
@@ -94,14 +87,9 @@ fn expect_piece<N: Run>(rt: &impl Abort, core: &mut Core<N>, cycle: u64) -> Resu
     Ok(())
 }
 
-/// Hands in the piece of a cycle, and says whether it was taken.
-fn is_taken<N: Run>(alloc: Global, core: &mut Core<N>, cycle: u64) -> Result<bool, Fail>
-    requires bare { IsBare N.case }
-    requires within { cycle < N.case.stimulus.cycles }
-    requires one { N.plan.parts ≡ 1 }
-{
-    let case = Arc::try_clone(core.case())?;
-    let piece = bare_piece(alloc, case, cycle);
+/// Hands in the piece of the cycle after the newest, and says whether it was taken.
+fn is_taken<N: Run>(rt: &impl Abort, alloc: Global, core: &mut Core<N>) -> Result<bool, Fail> {
+    let piece = open_piece(rt, alloc, core)?;
     match core.deposit(piece) {
         Deposit::Taken => Ok(true),
         Deposit::Stranger(_) => Ok(false),
@@ -173,15 +161,13 @@ fn compute<N: Run>(
     core: &mut Core<N>,
     cycle: u64,
 ) -> Result<(), Fail>
-    requires bare { IsBare N.case }
-    requires within { cycle < N.case.stimulus.cycles }
-    requires one { N.plan.parts ≡ 1 }
     requires few { cycle < 5 }
+    requires one { N.plan.parts ≡ 1 }
 {
     expect_piece(rt, core, cycle)?;
     assert!(rt; core.claimed(0));
-    assert!(rt; is_taken(alloc, core, cycle)?);
-    assert!(rt; !is_taken(alloc, core, cycle)?);
+    assert!(rt; is_taken(rt, alloc, core)?);
+    assert!(rt; !is_taken(rt, alloc, core)?);
     assert_eq!(rt; core.taken(), cycle + 1);
     Ok(())
 }
@@ -193,8 +179,6 @@ fn complete<N: Run>(
     core: &mut Core<N>,
     cycle: u64,
 ) -> Result<(), Fail>
-    requires bare { IsBare N.case }
-    requires within { cycle < N.case.stimulus.cycles }
     requires few { cycle < 5 }
     requires one { N.plan.parts ≡ 1 }
 {
@@ -210,8 +194,6 @@ fn complete<N: Run>(
 
 /// What is answered after a failure, where three cycles are claimed or done and the session wants cycle 1.
 fn expect_failure<N: Run>(rt: &impl Abort, alloc: Global, core: &mut Core<N>) -> Result<(), Fail>
-    requires bare { IsBare N.case }
-    requires one { N.plan.parts ≡ 1 }
     requires sessions { N.sessions ≡ 1 }
     requires cycles { N.case.stimulus.cycles ≡ 5 }
 {
@@ -219,7 +201,7 @@ fn expect_failure<N: Run>(rt: &impl Abort, alloc: Global, core: &mut Core<N>) ->
     core.fail();
     assert!(rt; core.failed());
     expect_finished(rt, core)?;
-    assert!(rt; !is_taken(alloc, core, 2)?);
+    assert!(rt; !is_taken(rt, alloc, core)?);
     assert!(rt; matches!(look_at(core, 1)?, Look::Found(_)));
     assert!(rt; matches!(look_at(core, 4)?, Look::Failed));
     Ok(())
@@ -230,7 +212,6 @@ fn by_hand<N: Run>(rt: &impl Abort, alloc: Global, case: Case, plan: Plan) -> Re
     requires case { case ≡ N.case }
     requires plan { plan ≡ N.plan }
     requires planned { IsPlanOf N.case N.plan }
-    requires bare { IsBare N.case }
     requires one { N.plan.parts ≡ 1 }
     requires cycles { N.case.stimulus.cycles ≡ 5 }
     requires window { N.window ≡ 2 }
@@ -252,25 +233,11 @@ fn by_hand<N: Run>(rt: &impl Abort, alloc: Global, case: Case, plan: Plan) -> Re
     Ok(())
 }
 
-/// The plan of a bare case for one part.
-#[tactic(auto, using(crate::proofs::Bare::plan_is))]
-fn one_part(alloc: Global) -> Result<Plan, Fail>
-    ensures { IfOk result (λ p. p ≡ bare_plan) }
-{
-    let mut parts = Vec::new(alloc);
-    parts.push(PartCells {
-        owned: Vec::new(alloc),
-        evaluated: Vec::new(alloc),
-    })?;
-    Ok(Plan::of(parts))
-}
-
 /// The example `core-by-hand`, and a failure after it.
 #[test]
-#[tactic(auto, using(crate::proofs::Bare::bare_planned))]
 fn core_by_hand(rt: HostRuntime) -> Result<(), Fail> {
     let alloc = rt.alloc();
     let case = bare_case(&rt, alloc)?;
-    let plan = one_part(alloc)?;
+    let plan = plan(alloc, &case, 1)?;
     by_hand::<Brand>(&rt, alloc, case, plan)
 }
