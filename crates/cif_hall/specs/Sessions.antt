@@ -70,7 +70,7 @@ AsksAt x k cycle (Err NoRoom) y t =
     (IsApart (want_at k.core.wants x.number) cycle → ⊥) × (y ≡ x)
     -- the core has failed already, or now, as the handle on its frame was refused
     × (((k.core.done ≤ cycle) × (k.core.failed ≡ true) × (t ≡ wanting k x.number cycle))
-      ⊎ ((cycle < k.core.done) × (t ≡ failing (wanting k x.number cycle))))
+    ⊎ ((cycle < k.core.done) × (t ≡ failing (wanting k x.number cycle))))
 
 -- what `ask_newest` answers
 abbrev pub AsksNewest : SessionOf → KeptOf → Result Step AtFault → SessionOf → KeptOf → Type 0
@@ -82,7 +82,7 @@ AsksNewest x k (Err (Back own)) y t = ⊥
 AsksNewest x k (Err (Past total)) y t = ⊥
 AsksNewest x k (Err Memory) y t =
     (y ≡ x) × (((x.pin ≡ None) × (k.core.done ≡ 0) × (k.core.failed ≡ true) × (t ≡ k))
-      ⊎ ((0 < k.core.done) × (t ≡ failing k)))
+    ⊎ ((0 < k.core.done) × (t ≡ failing k)))
 
 -- ---- pinning calls, for a total of cycles: session before, answer, session after
 

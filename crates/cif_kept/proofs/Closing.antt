@@ -75,8 +75,8 @@ pub no-wait : (c : CaseOf) (n w q : ℕ) (s t : State) → 2 ≤ w → IsKept c 
 no-wait c n w q s t two kept alone h =
     let floor-is = floor-deserted s.done s.wants alone.deserted in
     elim h.1 [
-    | inl full ↦ omega (arith, floor-is)
-    | inr none ↦ h.2 (every-deposited s.marks (λ i p. not-free _ (none-free s.marks i none p) (alone.unclaimed i)) ∙ kept.parts, alone.resting)
+      | inl full ↦ omega (arith, floor-is)
+      | inr none ↦ h.2 (every-deposited s.marks (λ i p. not-free _ (none-free s.marks i none p) (alone.unclaimed i)) ∙ kept.parts, alone.resting)
     ]
 
 alone-given : (s : State) (i : ℕ) → IsAlone s → IsAlone (given (claimed s i) i)
