@@ -18,11 +18,15 @@ use Rattle.cif_defs.specs.declared.raw_module.Raw.{Raw}
 use Rattle.cif_defs.proofs.Noninterference.{noninterference}
 use Rattle.cif_nets.proofs.Wired.{wired}
 use Rattle.cif_json.specs.Answers.{ComesTo}
-use Rattle.cif_desk.specs.Commands.{Command, check, eval, net_word}
+use Rattle.cif_desk.specs.Commands.{Command, check, eval, run, net_word, stim_word}
 use Rattle.cif_desk.specs.Refusals.{Refusal}
-use Rattle.cif_desk.specs.Permitted.{Permits, HoldsNetlist, HoldsStimulus, RefusesNetlist, NetlistTold, NetlistRefused, StimulusTold, StimulusRefused, check_text, text, netlist_refused, checked, stimulus_refused, evaluated, IsAllowed, IsDue, netlist_word, stimulus_word}
+use Rattle.cif_script.specs.Scripts.{ScriptData}
+use Rattle.cif_run.specs.Runs.{ToldData, IsRun, run_text_of}
+use Rattle.cif_run.specs.declared.size.RunSize.{RunSize}
+use Rattle.cif_desk.specs.Permitted.{Permits, HoldsNetlist, HoldsStimulus, HoldsScript, RefusesNetlist, NetlistTold, NetlistRefused, StimulusTold, StimulusRefused, ScriptTold, ScriptRefused, check_text, text, netlist_refused, checked, stimulus_refused, evaluated, script_refused, ran, IsAllowed, IsDue, netlist_word, stimulus_word, sessions_word}
 use Rattle.cif_desk.specs.Ends.{WritesOut, WritesApart}
-use Rattle.cif_desk.specs.Showing.{ShowsApart, text_showing}
+use Rattle.cif_desk.specs.Showing.{ShowsApart, RunsApart, text_showing}
+use Rattle.cif_desk.proofs.RunLaws.{runs_apart}
 use Rattle.cif_desk.specs.Stops.{StopsAtFile, StopsWriting, HasCause, end_status, stop_status}
 use Rattle.cif_desk.proofs.ShownBits.{length-src_word, length-taint_word}
 use Rattle.cif_seq.specs.Cases.{CaseOf, net_of}
@@ -38,7 +42,7 @@ out_whole told asked bytes old new allowed h = record {
   whole = λ e. allowed;
   nothing = λ a b. absurd (omega arith);
   part = λ a. absurd (omega arith);
-  whole_texts = λ net e f. absurd (omega arith);
+  whole_texts = λ e f. absurd (omega arith);
 }
 
 pub out_nothing : (told : Option Files) (asked : Option Command) (status : ℕ) (old new : Option (List ℕ)) → 1 ≤ status → new ≡ old → WritesOut told asked status old new
@@ -48,7 +52,7 @@ out_nothing told asked status old new l h = record {
   whole = λ e. absurd (omega arith);
   nothing = λ a b. refl;
   part = λ a. inl refl;
-  whole_texts = λ net e f. refl;
+  whole_texts = λ e f. refl;
 }
 
 allowed_along : (told : Option Files) (asked : Option Command) (s t : List ℕ) → s ≡ t → IsAllowed told asked (text t) → IsAllowed told asked (text s)
@@ -62,7 +66,7 @@ out_broken told asked bytes old new allowed h = record {
   whole = λ e. absurd (omega arith);
   nothing = λ a b. absurd (omega arith);
   part = λ a. inr (h.rest, allowed_along told asked (h.first ++ h.rest) bytes h.is_beginning allowed);
-  whole_texts = λ net e f. absurd (omega arith);
+  whole_texts = λ e f. absurd (omega arith);
 }
 
 -- the same for want of memory, in an evaluation
@@ -73,7 +77,7 @@ out_stopped told net stim bytes old new allowed h = record {
   whole = λ e. absurd (omega arith);
   nothing = λ a b. absurd (omega arith);
   part = λ a. inr (h.rest, allowed_along told (Some (eval net stim)) (h.first ++ h.rest) bytes h.is_beginning allowed);
-  whole_texts = λ other e f. absurd (cc);
+  whole_texts = λ e f. absurd (f net stim refl);
 }
 
 -- a stop at a file
@@ -118,6 +122,23 @@ module _ (told : Option Files) (net : List ℕ) (raw : Raw) (netlist : NetlistTo
       let Stopped : CaseOf → Type 0 = λ c. IfErr r (StopsWriting fault old new (eval_text (net_of c) c.stimulus)) in
       out_of_eval stim s fault old new r stimulus (subst Whole e ok) (subst Stopped e stops)
 
+  run_allowed : (stim sessions : List ℕ) (size : RunSize) (s : Stimulus) (script : ScriptData) (t : ToldData) (bytes : List ℕ) → StimulusTold told stim raw s → ScriptTold told sessions raw script → IsRun (netlist_of raw) s script size t → bytes ≡ run_text_of script t → IsAllowed told (Some (run net stim sessions size)) (text bytes)
+  run_allowed stim sessions size s script t bytes stimulus held is_run e = allowed_along told (Some (run net stim sessions size)) bytes (run_text_of script t) e (λ files f. ran net stim sessions size raw s script t (netlist.holds files f) (stimulus.holds files f) (held.holds files f) is_run)
+
+  -- the text of `run` was written, or a beginning of it
+  pub out_of_run : {A : Type 0} (stim sessions : List ℕ) (size : RunSize) (s : Stimulus) (script : ScriptData) (t : ToldData) (bytes : List ℕ) (fault : Type 0) (old new : Option (List ℕ)) (r : Result A Stop) → StimulusTold told stim raw s → ScriptTold told sessions raw script → IsRun (netlist_of raw) s script size t → bytes ≡ run_text_of script t
+      → OnOk r (Appends old new bytes) → IfErr r (StopsWriting fault old new bytes) → IfErr r (λ stop. stop ≡ Unwritten) → WritesOut told (Some (run net stim sessions size)) (end_status r) old new
+  out_of_run stim sessions size s script t bytes fault old new (Ok x) stimulus held is_run e ok stops is = out_whole told (Some (run net stim sessions size)) bytes old new (run_allowed stim sessions size s script t bytes stimulus held is_run e) ok
+  out_of_run stim sessions size s script t bytes fault old new (Err Usage) stimulus held is_run e ok stops is = absurd stops
+  out_of_run stim sessions size s script t bytes fault old new (Err (Refused line)) stimulus held is_run e ok stops is = absurd stops
+  out_of_run stim sessions size s script t bytes fault old new (Err (Unread line)) stimulus held is_run e ok stops is = absurd stops
+  out_of_run stim sessions size s script t bytes fault old new (Err Unwritten) stimulus held is_run e ok stops is = out_broken told (Some (run net stim sessions size)) bytes old new (run_allowed stim sessions size s script t bytes stimulus held is_run e) stops.1
+  out_of_run stim sessions size s script t bytes fault old new (Err NoMemory) stimulus held is_run e ok stops is = absurd (cc)
+
+-- a run of a case is one of its netlist and stimulus
+pub run_of_case : (raw : Raw) (order : List ℕ) (s : Stimulus) (c : CaseOf) (script : ScriptData) (size : RunSize) (t : ToldData) → c ≡ record { raw = raw; order = order; stimulus = s } → IsRun (net_of c) c.stimulus script size t → IsRun (netlist_of raw) s script size t
+run_of_case raw order s c script size t e h = let P : CaseOf → Type 0 = λ v. IsRun (net_of v) v.stimulus script size t in subst P e h
+
 -- ---- causes
 
 -- a stop at the writing
@@ -148,24 +169,44 @@ cause_at_netlist told c name failed rose write_fault Unwritten e h = absurd h
 cause_at_netlist told c name failed rose write_fault NoMemory e h = tt
 
 -- a stop at the stimulus; mid is what the store tells after the netlist was fetched
-pub cause_at_stimulus : (told mid : Option Files) (net stim failed : List ℕ) (raw : Raw) (rose later write_fault : Type 0) (stop : Stop) → mid ≡ told → (rose → later) → NetlistTold told net raw → StopsAtFile (StimulusRefused mid stim raw) (rose × (failed ≡ stim)) stim stop → HasCause told (Some (eval net stim)) failed later write_fault stop
-cause_at_stimulus told mid net stim failed raw rose later write_fault Usage e f netlist h = absurd h
-cause_at_stimulus told mid net stim failed raw rose later write_fault (Refused line) e f netlist h = (
+pub cause_at_stimulus : (told mid : Option Files) (c : Command) (stim failed : List ℕ) (raw : Raw) (rose later write_fault : Type 0) (stop : Stop) → stim_word c ≡ Some stim → mid ≡ told → (rose → later) → NetlistTold told (net_word c) raw → StopsAtFile (StimulusRefused mid stim raw) (rose × (failed ≡ stim)) stim stop → HasCause told (Some c) failed later write_fault stop
+cause_at_stimulus told mid c stim failed raw rose later write_fault Usage w e f netlist h = absurd h
+cause_at_stimulus told mid c stim failed raw rose later write_fault (Refused line) w e f netlist h = (
   h.0,
-  (λ files t. stimulus_refused net stim raw h.0 (netlist.holds files t) (h.1.refuses files (e ∙ t))),
+  (λ files t. stimulus_refused c stim raw h.0 w (netlist.holds files t) (h.1.refuses files (e ∙ t))),
   h.2,
 )
-cause_at_stimulus told mid net stim failed raw rose later write_fault (Unread line) e f netlist h = (
+cause_at_stimulus told mid c stim failed raw rose later write_fault (Unread line) w e f netlist h = (
   f h.0.0,
-  due_along told (Some (eval net stim)) stim failed h.0.1 (stimulus_word net stim (λ files t. (raw, netlist.holds files t))),
+  due_along told (Some c) stim failed h.0.1 (stimulus_word c stim w (λ files t. (raw, netlist.holds files t))),
   h.1 ∙ ap read_fault_line (sym h.0.1),
 )
-cause_at_stimulus told mid net stim failed raw rose later write_fault Unwritten e f netlist h = absurd h
-cause_at_stimulus told mid net stim failed raw rose later write_fault NoMemory e f netlist h = tt
+cause_at_stimulus told mid c stim failed raw rose later write_fault Unwritten w e f netlist h = absurd h
+cause_at_stimulus told mid c stim failed raw rose later write_fault NoMemory w e f netlist h = tt
+
+-- a stop at the sessions; mid is what the store tells after the stimulus was fetched
+pub cause_at_script : (told mid : Option Files) (net stim sessions failed : List ℕ) (size : RunSize) (raw : Raw) (s : Stimulus) (rose later write_fault : Type 0) (stop : Stop) → mid ≡ told → (rose → later) → NetlistTold told net raw → StimulusTold told stim raw s → StopsAtFile (ScriptRefused mid sessions raw) (rose × (failed ≡ sessions)) sessions stop
+    → HasCause told (Some (run net stim sessions size)) failed later write_fault stop
+cause_at_script told mid net stim sessions failed size raw s rose later write_fault Usage e f netlist stimulus h = absurd h
+cause_at_script told mid net stim sessions failed size raw s rose later write_fault (Refused line) e f netlist stimulus h = (
+  h.0,
+  (λ files t. script_refused net stim sessions size raw s h.0 (netlist.holds files t) (stimulus.holds files t) (h.1.refuses files (e ∙ t))),
+  h.2,
+)
+cause_at_script told mid net stim sessions failed size raw s rose later write_fault (Unread line) e f netlist stimulus h = (
+  f h.0.0,
+  due_along told (Some (run net stim sessions size)) sessions failed h.0.1 (sessions_word net stim sessions size (λ files t. (raw, s, netlist.holds files t, stimulus.holds files t))),
+  h.1 ∙ ap read_fault_line (sym h.0.1),
+)
+cause_at_script told mid net stim sessions failed size raw s rose later write_fault Unwritten e f netlist stimulus h = absurd h
+cause_at_script told mid net stim sessions failed size raw s rose later write_fault NoMemory e f netlist stimulus h = tt
 
 -- what the store tells stays
 pub StimulusTold-along : (told mid : Option Files) (name : List ℕ) (raw : Raw) (s : Stimulus) → mid ≡ told → StimulusTold mid name raw s → StimulusTold told name raw s
 StimulusTold-along told mid name raw s e h = record { holds = λ files t. h.holds files (e ∙ t) }
+
+pub ScriptTold-along : (told mid : Option Files) (name : List ℕ) (raw : Raw) (script : ScriptData) → mid ≡ told → ScriptTold mid name raw script → ScriptTold told name raw script
+ScriptTold-along told mid name raw script e h = record { holds = λ files t. h.holds files (e ∙ t) }
 
 -- ---- noninterference
 
@@ -189,6 +230,15 @@ same_netlist files name a b h k =
 
 same_stimulus : (files : Files) (name : List ℕ) (raw : Raw) (a b : Stimulus) → HoldsStimulus files name raw a → HoldsStimulus files name raw b → a ≡ b
 same_stimulus files name raw a b h k =
+    let first = h.held.told in
+    let second = k.held.told in
+    let same : h.bytes ≡ k.bytes = cc in
+    let read = h.read in
+    let again = k.read in
+    cc
+
+same_script : (files : Files) (name : List ℕ) (raw : Raw) (a b : ScriptData) → HoldsScript files name raw a → HoldsScript files name raw b → a ≡ b
+same_script files name raw a b h k =
     let first = h.held.told in
     let second = k.held.told in
     let same : h.bytes ≡ k.bytes = cc in
@@ -238,15 +288,34 @@ same_bytes old new before a b h o n =
 pub apart : {A : Type 0} (told : Option Files) (net stim : List ℕ) (raw : Raw) (order : List ℕ) (old new : Option (List ℕ)) (r : Result A Stop) → NetlistTold told net raw → IsLevelled (netlist_of raw) order → WritesOut told (Some (eval net stim)) (end_status r) old new
     → OnOk r (WritesApart told (Some (eval net stim)) old new)
 apart told net stim raw order old new (Err e) netlist levelled w = tt
-apart told net stim raw order old new (Ok x) netlist levelled w = λ files other file raw2 s before bytes t e h k o n.
-    let word : net ≡ other = cc in
-    let words : eval net stim ≡ eval other file = cc in
-    let P : List ℕ → Type 0 = λ v. HoldsNetlist files v raw in
-    let held : HoldsNetlist files other raw = subst P word (netlist.holds files t) in
-    let same : raw ≡ raw2 = same_netlist files other raw raw2 held h in
+apart told net stim raw order old new (Ok x) netlist levelled w = λ files raw2 s before bytes t h k o n.
+    let same : raw ≡ raw2 = same_netlist files net raw raw2 (netlist.holds files t) h in
     let Q : Raw → Type 0 = λ r. IsLevelled (netlist_of r) order in
     let told_bytes : w.bytes ≡ bytes = same_bytes old new before w.bytes bytes w.appended o n in
     let R : List ℕ → Type 0 = λ b. Permits files (eval net stim) (text b) in
-    let C : Command → Type 0 = λ c. Permits files c (text bytes) in
-    let permitted : Permits files (eval other file) (text bytes) = subst C words (subst R told_bytes (w.whole refl files t)) in
-    shows_apart (netlist_of raw2) order s bytes (wired raw2 h.passes.accepted) (subst Q same levelled) (text_of_eval files other file bytes raw2 s h k permitted)
+    let permitted : Permits files (eval net stim) (text bytes) = subst R told_bytes (w.whole refl files t) in
+    shows_apart (netlist_of raw2) order s bytes (wired raw2 h.passes.accepted) (subst Q same levelled) (text_of_eval files net stim bytes raw2 s h k permitted)
+
+-- `check` shows nothing of a run
+pub check_apart : {A : Type 0} (told : Option Files) (net : List ℕ) (old new : Option (List ℕ)) (r : Result A Stop) → OnOk r (WritesApart told (Some (check net)) old new)
+check_apart told net old new (Err e) = tt
+check_apart told net old new (Ok x) = tt
+
+-- a run that ends well
+pub run_apart : {A : Type 0} (told : Option Files) (net stim sessions : List ℕ) (size : RunSize) (raw : Raw) (order : List ℕ) (s : Stimulus) (script : ScriptData) (t : ToldData) (written : List ℕ) (old new : Option (List ℕ)) (r : Result A Stop) → NetlistTold told net raw → IsLevelled (netlist_of raw) order → StimulusTold told stim raw s → ScriptTold told sessions raw script
+    → IsRun (netlist_of raw) s script size t → written ≡ run_text_of script t → OnOk r (Appends old new written) → OnOk r (WritesApart told (Some (run net stim sessions size)) old new)
+run_apart told net stim sessions size raw order s script t written old new (Err e) netlist levelled stimulus held is_run is ok = tt
+run_apart told net stim sessions size raw order s script t written old new (Ok x) netlist levelled stimulus held is_run is ok = λ files raw2 s2 script2 before bytes f h k j o n.
+    let held_net : HoldsNetlist files net raw = netlist.holds files f in
+    let same_raw : raw ≡ raw2 = same_netlist files net raw raw2 held_net h in
+    let P : Raw → Type 0 = λ r. HoldsStimulus files stim r s in
+    let same_s : s ≡ s2 = same_stimulus files stim raw2 s s2 (subst P same_raw (stimulus.holds files f)) k in
+    let Q : Raw → Type 0 = λ r. HoldsScript files sessions r script in
+    let same_lines : script ≡ script2 = same_script files sessions raw2 script script2 (subst Q same_raw (held.holds files f)) j in
+    let same_text : written ≡ bytes = same_bytes old new before written bytes ok o n in
+    let shown : RunsApart (netlist_of raw) s script size written = runs_apart (netlist_of raw) order s script size t written (wired raw held_net.passes.accepted) levelled is_run is in
+    let R : Raw → Type 0 = λ r. RunsApart (netlist_of r) s script size written in
+    let S : Stimulus → Type 0 = λ u. RunsApart (netlist_of raw2) u script size written in
+    let T : ScriptData → Type 0 = λ u. RunsApart (netlist_of raw2) s2 u size written in
+    let U : List ℕ → Type 0 = RunsApart (netlist_of raw2) s2 script2 size in
+    subst U same_text (subst T same_lines (subst S same_s (subst R same_raw shown)))

@@ -18,8 +18,13 @@ use Rattle.cif_stimulus.specs.StimulusText.{stimulus_read}
 use Rattle.cif_stim_read.specs.Reading.{IsFirst as IsFirstRead}
 use Rattle.cif_stimulus.specs.declared.fault.StimFault.{StimFault}
 use Rattle.cif_stimulus.specs.declared.fault.StimFault.TheVariants.{Memory as NoRoom}
-use Rattle.cif_desk.specs.Refusals.{Refusal, build_refusal, loop_refusal, stim_refusal}
-use Rattle.cif_desk.specs.Permitted.{FileTold, LongFileTold, IsNetlist, FailsNetlist, looped, long_netlist, bad_netlist, NetlistTold, NetlistRefused, long_stimulus, bad_stimulus, StimulusTold, StimulusRefused}
+use Rattle.cif_script.specs.Scripts.{ScriptData}
+use Rattle.cif_script.specs.ScriptText.{script_of}
+use Rattle.cif_script.specs.Seen.{IsFirst as IsFirstScript}
+use Rattle.cif_script.specs.declared.fault.ScriptFault.{ScriptFault}
+use Rattle.cif_script.specs.declared.fault.ScriptFault.TheVariants.{Memory as NoScript}
+use Rattle.cif_desk.specs.Refusals.{Refusal, build_refusal, loop_refusal, stim_refusal, script_refusal}
+use Rattle.cif_desk.specs.Permitted.{FileTold, LongFileTold, IsNetlist, FailsNetlist, looped, long_netlist, bad_netlist, NetlistTold, NetlistRefused, long_stimulus, bad_stimulus, StimulusTold, StimulusRefused, long_script, bad_script, ScriptTold, ScriptRefused}
 use Rattle.cif_desk.specs.Stops.{StopsBy, StopsAtFile}
 use Rattle.cif_desk.specs.declared.stop.Stop.{Stop}
 use Rattle.cif_desk.specs.declared.stop.Stop.TheVariants.{Usage, Refused, Unread, Unwritten, NoMemory}
@@ -90,6 +95,26 @@ long_stimulus_refused told name raw r h = record { refuses = λ files t. long_st
 pub bad_stimulus_refused : (told : Option Files) (name bytes held : List ℕ) (raw : Raw) (r : Refusal) → FileTold told name held → bytes ≡ held → (fault : StimFault) × (stimulus_read raw bytes ≡ Err fault) × (stim_refusal fault ≡ Some r) → StimulusRefused told name raw r
 bad_stimulus_refused told name bytes held raw r file e h = record {
   refuses = λ files t. bad_stimulus held h.0 (file.holds files t) (ap (stimulus_read raw) (sym e) ∙ h.1) h.2;
+}
+
+-- ---- scripts of sessions
+
+-- a fault that has a refusal is the one that the reading gives
+pub script_first : (found : Result ScriptData ScriptFault) (fault : ScriptFault) (r : Refusal) → IsFirstScript found fault → script_refusal fault ≡ Some r → found ≡ Err fault
+script_first found NoScript r h e = absurd (cc)
+script_first found fault r h e = h
+
+pub script_told : (told : Option Files) (name bytes held : List ℕ) (raw : Raw) (script : ScriptData) → FileTold told name held → bytes ≡ held → script_of raw bytes ≡ Ok script → ScriptTold told name raw script
+script_told told name bytes held raw script file e read = record {
+  holds = λ files t. record { bytes = held; held = file.holds files t; read = ap (script_of raw) (sym e) ∙ read };
+}
+
+pub long_script_refused : (told : Option Files) (name : List ℕ) (raw : Raw) (r : Refusal) → LongFileTold told name r → ScriptRefused told name raw r
+long_script_refused told name raw r h = record { refuses = λ files t. long_script (h.holds files t) h.is }
+
+pub bad_script_refused : (told : Option Files) (name bytes held : List ℕ) (raw : Raw) (r : Refusal) → FileTold told name held → bytes ≡ held → (fault : ScriptFault) × (script_of raw bytes ≡ Err fault) × (script_refusal fault ≡ Some r) → ScriptRefused told name raw r
+bad_script_refused told name bytes held raw r file e h = record {
+  refuses = λ files t. bad_script held h.0 (file.holds files t) (ap (script_of raw) (sym e) ∙ h.1) h.2;
 }
 
 -- ---- a stimulus has a cycle

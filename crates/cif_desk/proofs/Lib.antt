@@ -1,7 +1,9 @@
 pub mod TextLaws
+pub mod CommandLaws
 pub mod RefusalLaws
 pub mod ShownBits
 pub mod CycleLaws
 pub mod FileLaws
+pub mod RunLaws
 pub mod AnswerLaws
 pub mod EndLaws

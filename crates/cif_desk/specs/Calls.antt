@@ -47,5 +47,6 @@ pub record Answers (call : Call) (status : ℕ) : Type 0 where
   -- out takes a permitted text, a beginning of one, or nothing; err takes nothing, one line, or a beginning of one
   pub out : WritesOut call.told call.asked status call.out.old call.out.new
   pub err : WritesErr call.told call.asked call.failed status call.err.old call.err.new
-  -- each bit that out shows untainted has the value that is shown, under every stimulus that agrees up to its cycle
+  -- each bit that out shows untainted has the value that is shown, under every stimulus that agrees up to its cycle; that of
+  -- an answer to a session is the session's own
   pub noninterference : status ≡ 0 → WritesApart call.told call.asked call.out.old call.out.new

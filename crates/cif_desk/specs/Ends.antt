@@ -1,15 +1,16 @@
 -- What a call leaves, by the status that it ends with: 0 the whole text, 1 usage, 2 a refusal, 3 a read fault, 4 a write
 -- fault, 5 want of memory.
-use Rattle.std.specs.Prelude.{ℕ, ◌≤◌, ◌≡◌, ◌⊎◌, List, [], ◌++◌, Option, Some, None, IsSome}
+use Rattle.std.specs.Prelude.{ℕ, ◌≤◌, ◌≡◌, ◌≢◌, ◌⊎◌, ⊤, List, [], ◌++◌, Option, Some, None, IsSome}
 use Rattle.cif_io.specs.Outside.{Files, Appends}
 use Rattle.cif_defs.specs.Accepted.{netlist_of}
 use Rattle.cif_defs.specs.Stimulus.{Stimulus}
 use Rattle.cif_defs.specs.Messages.{usage_line, read_fault_line, write_fault_line, memory_line}
 use Rattle.cif_defs.specs.declared.raw_module.Raw.{Raw}
-use Rattle.cif_desk.specs.Commands.{Command, check, eval}
+use Rattle.cif_script.specs.Scripts.{ScriptData}
+use Rattle.cif_desk.specs.Commands.{Command, check, eval, run}
 use Rattle.cif_desk.specs.Refusals.{Refusal, line_of}
-use Rattle.cif_desk.specs.Permitted.{refused, text, IsAllowed, IsDue, HoldsNetlist, HoldsStimulus}
-use Rattle.cif_desk.specs.Showing.{ShowsApart}
+use Rattle.cif_desk.specs.Permitted.{refused, text, IsAllowed, IsDue, HoldsNetlist, HoldsStimulus, HoldsScript}
+use Rattle.cif_desk.specs.Showing.{ShowsApart, RunsApart}
 
 -- ---- out
 
@@ -25,7 +26,7 @@ pub record WritesOut (told : Option Files) (asked : Option Command) (status : �
   pub nothing : 1 ≤ status → status ≤ 3 → bytes ≡ []
   pub part : 4 ≤ status → IsBeginning told asked bytes
   -- but for `eval`, want of memory comes before the first write
-  pub whole_texts : (net : List ℕ) → status ≡ 5 → asked ≡ Some (check net) → bytes ≡ []
+  pub whole_texts : status ≡ 5 → ((net stim : List ℕ) → asked ≢ Some (eval net stim)) → bytes ≡ []
 
 -- ---- err
 
@@ -54,8 +55,15 @@ pub record WritesErr (told : Option Files) (asked : Option Command) (failed : Li
 
 -- ---- noninterference
 
--- what out took shows no more of tainted bits than it says, where it was an evaluation and store and out tell their content
+-- what out took shows no more of tainted bits than it says, where it was an evaluation or a run, and store and out tell
+-- their content
 abbrev pub WritesApart : Option Files → Option Command → Option (List ℕ) → Option (List ℕ) → Type 0
-WritesApart told asked old new =
-    (files : Files) (net stim : List ℕ) (raw : Raw) (s : Stimulus) (before bytes : List ℕ) → told ≡ Some files → asked ≡ Some (eval net stim)
+WritesApart told None old new = ⊤
+WritesApart told (Some (check net)) old new = ⊤
+WritesApart told (Some (eval net stim)) old new =
+    (files : Files) (raw : Raw) (s : Stimulus) (before bytes : List ℕ) → told ≡ Some files
     → HoldsNetlist files net raw → HoldsStimulus files stim raw s → old ≡ Some before → new ≡ Some (before ++ bytes) → ShowsApart (netlist_of raw) s bytes
+WritesApart told (Some (run net stim sessions size)) old new =
+    (files : Files) (raw : Raw) (s : Stimulus) (script : ScriptData) (before bytes : List ℕ) → told ≡ Some files
+    → HoldsNetlist files net raw → HoldsStimulus files stim raw s → HoldsScript files sessions raw script
+    → old ≡ Some before → new ≡ Some (before ++ bytes) → RunsApart (netlist_of raw) s script size bytes

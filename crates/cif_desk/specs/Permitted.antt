@@ -17,9 +17,14 @@ use Rattle.cif_level.specs.declared.fault.LevelFault.TheVariants.{Loop}
 use Rattle.cif_json.specs.Answers.{ComesTo, IsRefused}
 use Rattle.cif_stimulus.specs.StimulusText.{stimulus_read}
 use Rattle.cif_stimulus.specs.declared.fault.StimFault.{StimFault}
+use Rattle.cif_script.specs.Scripts.{ScriptData}
+use Rattle.cif_script.specs.ScriptText.{script_of}
+use Rattle.cif_script.specs.declared.fault.ScriptFault.{ScriptFault}
+use Rattle.cif_run.specs.Runs.{ToldData, IsRun, run_text_of}
+use Rattle.cif_run.specs.declared.size.RunSize.{RunSize}
 use Rattle.cif_json.specs.declared.fault.JsonFault.{JsonFault}
-use Rattle.cif_desk.specs.Commands.{Command, check, eval, net_word}
-use Rattle.cif_desk.specs.Refusals.{Refusal, joined, too_long, json_refusal, build_refusal, loop_refusal, stim_refusal}
+use Rattle.cif_desk.specs.Commands.{Command, check, eval, run, net_word, stim_word}
+use Rattle.cif_desk.specs.Refusals.{Refusal, joined, too_long, json_refusal, build_refusal, loop_refusal, stim_refusal, script_refusal}
 
 -- ---- files
 
@@ -79,6 +84,18 @@ pub data RefusesStimulus (files : Files) (name : List ℕ) (raw : Raw) (refusal 
   long_stimulus : HoldsLongFile files name → too_long name ≡ refusal → RefusesStimulus files name raw refusal
   bad_stimulus : (bytes : List ℕ) (fault : StimFault) → HoldsFile files name bytes → stimulus_read raw bytes ≡ Err fault → stim_refusal fault ≡ Some refusal → RefusesStimulus files name raw refusal
 
+-- ---- scripts of sessions
+
+-- for the netlist of a module
+pub record HoldsScript (files : Files) (name : List ℕ) (raw : Raw) (script : ScriptData) : Type 0 where
+  pub bytes : List ℕ
+  pub held : HoldsFile files name bytes
+  pub read : script_of raw bytes ≡ Ok script
+
+pub data RefusesScript (files : Files) (name : List ℕ) (raw : Raw) (refusal : Refusal) : Type 0 where
+  long_script : HoldsLongFile files name → too_long name ≡ refusal → RefusesScript files name raw refusal
+  bad_script : (bytes : List ℕ) (fault : ScriptFault) → HoldsFile files name bytes → script_of raw bytes ≡ Err fault → script_refusal fault ≡ Some refusal → RefusesScript files name raw refusal
+
 -- ---- the same, where the store tells its files
 
 pub record NetlistTold (told : Option Files) (name : List ℕ) (raw : Raw) : Type 0 where
@@ -93,6 +110,12 @@ pub record StimulusTold (told : Option Files) (name : List ℕ) (raw : Raw) (s :
 pub record StimulusRefused (told : Option Files) (name : List ℕ) (raw : Raw) (refusal : Refusal) : Type 0 where
   pub refuses : (files : Files) → told ≡ Some files → RefusesStimulus files name raw refusal
 
+pub record ScriptTold (told : Option Files) (name : List ℕ) (raw : Raw) (script : ScriptData) : Type 0 where
+  pub holds : (files : Files) → told ≡ Some files → HoldsScript files name raw script
+
+pub record ScriptRefused (told : Option Files) (name : List ℕ) (raw : Raw) (refusal : Refusal) : Type 0 where
+  pub refuses : (files : Files) → told ≡ Some files → RefusesScript files name raw refusal
+
 -- ---- what is answered
 
 -- `accepted cells C bits B state S`: all cells, the net bits, and the bits of registers and memories
@@ -106,12 +129,17 @@ pub data Answer : Type 0 where
   refused : Refusal → Answer
   text : List ℕ → Answer
 
--- each file is read and checked wholly before the next
+-- each file is read and checked wholly before the next; a run may come to the text of any answers that are legal, with any
+-- counts of its workers that add up
 pub data Permits (files : Files) : Command → Answer → Type 0 where
   netlist_refused : (c : Command) (refusal : Refusal) → RefusesNetlist files (net_word c) refusal → Permits files c (refused refusal)
   checked : (net : List ℕ) (raw : Raw) → HoldsNetlist files net raw → Permits files (check net) (text (check_text (netlist_of raw)))
-  stimulus_refused : (net stim : List ℕ) (raw : Raw) (refusal : Refusal) → HoldsNetlist files net raw → RefusesStimulus files stim raw refusal → Permits files (eval net stim) (refused refusal)
+  stimulus_refused : (c : Command) (stim : List ℕ) (raw : Raw) (refusal : Refusal) → stim_word c ≡ Some stim → HoldsNetlist files (net_word c) raw → RefusesStimulus files stim raw refusal → Permits files c (refused refusal)
   evaluated : (net stim : List ℕ) (raw : Raw) (s : Stimulus) → HoldsNetlist files net raw → HoldsStimulus files stim raw s → Permits files (eval net stim) (text (eval_text (netlist_of raw) s))
+  script_refused : (net stim sessions : List ℕ) (size : RunSize) (raw : Raw) (s : Stimulus) (refusal : Refusal) → HoldsNetlist files net raw → HoldsStimulus files stim raw s → RefusesScript files sessions raw refusal
+      → Permits files (run net stim sessions size) (refused refusal)
+  ran : (net stim sessions : List ℕ) (size : RunSize) (raw : Raw) (s : Stimulus) (script : ScriptData) (told : ToldData) → HoldsNetlist files net raw → HoldsStimulus files stim raw s → HoldsScript files sessions raw script
+      → IsRun (netlist_of raw) s script size told → Permits files (run net stim sessions size) (text (run_text_of script told))
 
 -- a permitted answer to what was asked: where the words fit no form, usage alone; else one that the files permit, where
 -- the store tells its files
@@ -122,4 +150,6 @@ IsAllowed told (Some c) answer = (files : Files) → told ≡ Some files → Per
 -- a file word that is fetched: each file word before it names a file that passes all its checks, where the store tells its files
 pub data IsDue (told : Option Files) : Option Command → List ℕ → Type 0 where
   netlist_word : (c : Command) → IsDue told (Some c) (net_word c)
-  stimulus_word : (net stim : List ℕ) → ((files : Files) → told ≡ Some files → (raw : Raw) × HoldsNetlist files net raw) → IsDue told (Some (eval net stim)) stim
+  stimulus_word : (c : Command) (stim : List ℕ) → stim_word c ≡ Some stim → ((files : Files) → told ≡ Some files → (raw : Raw) × HoldsNetlist files (net_word c) raw) → IsDue told (Some c) stim
+  sessions_word : (net stim sessions : List ℕ) (size : RunSize) → ((files : Files) → told ≡ Some files → (raw : Raw) × (s : Stimulus) × HoldsNetlist files net raw × HoldsStimulus files stim raw s)
+      → IsDue told (Some (run net stim sessions size)) sessions

@@ -13,6 +13,8 @@ use Rattle.cif_json.specs.declared.fault.JsonFault.{JsonFault}
 use Rattle.cif_json.specs.declared.fault.JsonFault.TheVariants.{BadJson, NoModules, NoTop, BadShape, Memory as NoMemory}
 use Rattle.cif_stimulus.specs.declared.fault.StimFault.{StimFault}
 use Rattle.cif_stimulus.specs.declared.fault.StimFault.TheVariants.{BadLine, NoSuchName, WrongWidth, NoCycles, TooManyCycles, SetTwice, BadAddress, Memory as NoRoom}
+use Rattle.cif_script.specs.declared.fault.ScriptFault.{ScriptFault}
+use Rattle.cif_script.specs.declared.fault.ScriptFault.TheVariants as script
 
 pub record Refusal : Type 0 where
   pub number : ℕ
@@ -97,3 +99,15 @@ stim_refusal TooManyCycles = Some (refusal 44 (codes "too many cycles" ∷ []))
 stim_refusal (SetTwice line) = Some (refusal 45 (codes "set again at line " ∷ decimal line ∷ []))
 stim_refusal (BadAddress line) = Some (refusal 46 (codes "address at line " ∷ decimal line ∷ []))
 stim_refusal NoRoom = None
+
+-- ---- scripts of sessions
+
+-- want of memory is no refusal
+abbrev pub script_refusal : ScriptFault → Option Refusal
+script_refusal (script.BadLine line) = Some (refusal 60 (codes "line " ∷ decimal line ∷ []))
+script_refusal (script.NoSuchName line) = Some (refusal 61 (codes "name at line " ∷ decimal line ∷ []))
+script_refusal (script.NotTwoValued line) = Some (refusal 62 (codes "no two-valued name at line " ∷ decimal line ∷ []))
+script_refusal script.TooManySessions = Some (refusal 63 (codes "too many sessions" ∷ []))
+script_refusal (script.SameName line) = Some (refusal 64 (codes "session again at line " ∷ decimal line ∷ []))
+script_refusal script.ScriptTooLarge = Some (refusal 65 (codes "script too large" ∷ []))
+script_refusal script.Memory = None

@@ -1,8 +1,8 @@
-// The commands: files fetched, words matched and texts written stand here alone.
-ghost use Rattle.std.specs.Prelude.{◌≡◌, Some, None, IfOk, IfErr, OnOk, Err};
+// The commands that never wait, and what tells an end.
+ghost use Rattle.std.specs.Prelude.{◌≡◌, false, map, string_bytes, Some, None, IfOk, IfErr, OnOk, Err};
 ghost use Rattle.cif_io.specs.Outside.{Rose};
 ghost use Rattle.cif_defs.specs.Accepted.{netlist_of};
-ghost use Rattle.cif_desk.specs.Commands.{check as checks, eval as evaluates};
+ghost use Rattle.cif_desk.specs.Commands.{check as checks, eval as evaluates, may_wait};
 ghost use Rattle.cif_desk.specs.CommandView.{asked_by};
 ghost use Rattle.cif_desk.specs.Permitted.{check_text as text_of_check};
 ghost use Rattle.cif_desk.specs.Ends.{WritesOut, WritesApart};
@@ -15,7 +15,7 @@ use crate::files::{netlist_file, stimulus_file};
 use crate::stop::Stop;
 use crate::text::{Piece, push_all};
 use cif_cells::Netlist;
-use cif_io::{Gate, Sink, Store, write_all};
+use cif_io::{Sink, Store, write_all};
 use cif_seq::Case;
 use std::alloc::{AllocError, Global};
 use std::sync::Arc;
@@ -79,13 +79,14 @@ fn eval<S: Store, W: Sink>(
     write_cycles(alloc, &case, out)
 }
 
-/// Does what the words ask, and writes its text to out.
+/// Does what words ask that never wait, and writes its text to out.
 fn answer<S: Store, W: Sink>(
     alloc: Global,
     words: &[String],
     store: &mut S,
     out: &mut W,
 ) -> Result<(), Stop>
+    requires { may_wait (map string_bytes words.now) ≡ false }
     ensures out { WritesOut (S.told store.old) (asked_by words.now) (end_status result)
         (W.taken out.old) (W.taken out.new) }
     ensures cause { IfErr result (HasCause (S.told store.old) (asked_by words.now)
@@ -98,6 +99,7 @@ fn answer<S: Store, W: Sink>(
     match asked(words) {
         Some(Command::Check { net }) => check(alloc, net, store, out),
         Some(Command::Eval { net, stim }) => eval(alloc, net, stim, store, out),
+        Some(Command::Run { .. }) => unreachable!(),
         None => Err(Stop::Usage),
     }
 }
@@ -114,7 +116,7 @@ fn say<E: Sink>(err: &mut E, line: &[u8], status: u8) -> u8
 }
 
 /// Tells on err why there is no whole text.
-fn tell<E: Sink>(err: &mut E, stop: &Stop) -> u8
+pub(crate) fn tell<E: Sink>(err: &mut E, stop: &Stop) -> u8
     ensures { Says (stop_line stop.now) (stop_status stop.now)
         (Rose (E.faults err.old) (E.faults err.new)) (E.taken err.old) (E.taken err.new) result }
 {
@@ -130,8 +132,8 @@ fn tell<E: Sink>(err: &mut E, stop: &Stop) -> u8
     }
 }
 
-/// Does what the words ask: fetches the files that they name from `store`, writes the text to `out`, and one line to
-/// `err` where there is no whole text. It always returns.
+/// Does what the words ask, which don't ask for what may wait: fetches the files that they name from `store`, writes the
+/// text to `out`, and one line to `err` where there is no whole text. It always returns.
 ///
 /// The status is 0 where the text was written whole, 1 for usage, 2 for a refusal, 3 for a read fault, 4 for a write
 /// fault, and 5 for want of memory.
@@ -142,6 +144,7 @@ pub fn quiet<S: Store, W: Sink, E: Sink>(
     out: &mut W,
     err: &mut E,
 ) -> u8
+    requires { may_wait (map string_bytes words.now) ≡ false }
     ensures { Answers (record {
       asked = asked_by words.now;
       told = S.told store.old;
@@ -157,30 +160,4 @@ pub fn quiet<S: Store, W: Sink, E: Sink>(
         Ok(()) => 0,
         Err(stop) => tell(err, &stop),
     }
-}
-
-/// The call that the program makes: does what the words ask, as `quiet` does. The runtime is what threads will be
-/// started by, and the gate what is told of the steps of workers and sessions; there are none yet, so neither is asked
-/// for anything, and the call always returns.
-pub fn cellift<S: Store, W: Sink, E: Sink, G: Gate + Sync, R>(
-    _rt: &R,
-    alloc: Global,
-    words: &[String],
-    store: &mut S,
-    out: &mut W,
-    err: &mut E,
-    _gate: &G,
-) -> u8
-    ensures { Answers (record {
-      asked = asked_by words.now;
-      told = S.told store.old;
-      failed = S.last_failed store.new;
-      store_faults = record { old = S.faults store.old; new = S.faults store.new };
-      out_faults = record { old = W.faults out.old; new = W.faults out.new };
-      err_faults = record { old = E.faults err.old; new = E.faults err.new };
-      out = record { old = W.taken out.old; new = W.taken out.new };
-      err = record { old = E.taken err.old; new = E.taken err.new };
-    }) result }
-{
-    quiet(alloc, words, store, out, err)
 }

@@ -1,5 +1,6 @@
 // Files that words name, read and checked.
 ghost use Rattle.std.specs.Prelude.{◌≡◌, ◌<◌, Some, true, Ok, Err, IfOk, IfErr, OnOk};
+ghost use Rattle.std.specs.List.{All};
 ghost use Rattle.cif_io.specs.Outside.{Rose};
 ghost use Rattle.cif_defs.specs.Accepted.{netlist_of};
 ghost use Rattle.cif_defs.specs.Loop.{IsLevelled};
@@ -7,16 +8,22 @@ ghost use Rattle.cif_stimulus.specs.StimulusText.{stimulus_read};
 ghost use Rattle.cif_stimulus.specs.Fitting.{fits_of};
 ghost use Rattle.cif_stimulus.specs.Places.{IsOrdered};
 ghost use Rattle.cif_stimulus.specs.declared.fault.StimFault.{StimFault as FaultValue};
-ghost use Rattle.cif_desk.specs.Refusals.{stim_refusal};
-ghost use Rattle.cif_desk.specs.Permitted.{FileTold, LongFileTold, IsNetlist, FailsNetlist, NetlistTold, NetlistRefused, StimulusTold, StimulusRefused};
+ghost use Rattle.cif_script.specs.ScriptText.{script_of};
+ghost use Rattle.cif_script.specs.ShownWires.{IsWireOf};
+ghost use Rattle.cif_script.specs.declared.fault.ScriptFault.{ScriptFault as ScriptFaultValue};
+ghost use Rattle.cif_desk.specs.Refusals.{stim_refusal, script_refusal};
+ghost use Rattle.cif_desk.specs.Permitted.{FileTold, LongFileTold, IsNetlist, FailsNetlist, NetlistTold, NetlistRefused, StimulusTold, StimulusRefused, ScriptTold, ScriptRefused};
 ghost use Rattle.cif_desk.specs.Stops.{StopsBy, StopsAtFile};
 
-use crate::refusal::{build_stop, json_stop, loop_stop, stim_stop, too_long_stop, unread_stop};
+use crate::refusal::{
+    build_stop, json_stop, loop_stop, script_stop, stim_stop, too_long_stop, unread_stop,
+};
 use crate::stop::Stop;
 use cif_cells::Netlist;
 use cif_io::{Store, StoreFault};
 use cif_json::read_netlist;
 use cif_level::{LevelFault, Levels, levels};
+use cif_script::{Script, read_sessions};
 use cif_stim_read::read_stimulus;
 use cif_stimulus::Stimulus;
 use std::alloc::Global;
@@ -112,8 +119,39 @@ pub(crate) fn stimulus_file<S: Store>(
     ensures err { IfErr result (StopsAtFile
         (StimulusRefused (S.told store.old) name.now netlist.now)
         (Rose (S.faults store.old) (S.faults store.new) × (S.last_failed store.new ≡ name.now)) name.now) }
+    ensures kept { OnOk result (S.faults store.new ≡ S.faults store.old) }
     ensures same_files { S.told store.new ≡ S.told store.old }
 {
     let bytes = fetched(alloc, name, store)?;
     stimulus_of_bytes(alloc, netlist, &bytes)
+}
+
+/// The script of sessions that bytes say, for a netlist.
+fn script_of_bytes(alloc: Global, netlist: &Netlist, bytes: &[u8]) -> Result<Script, Stop>
+    ensures ok { IfOk result (λ s. script_of netlist.now bytes.now ≡ Ok s) }
+    ensures wires { IfOk result (λ s. All (IsWireOf netlist.now) s.wires) }
+    ensures err { IfErr result (StopsBy (λ r. (fault : ScriptFaultValue)
+        × (script_of netlist.now bytes.now ≡ Err fault) × (script_refusal fault ≡ Some r))) }
+{
+    match read_sessions(alloc, netlist, bytes) {
+        Ok(script) => Ok(script),
+        Err(fault) => Err(script_stop(alloc, fault)),
+    }
+}
+
+/// The script of sessions of a file, for a netlist.
+pub(crate) fn script_file<S: Store>(
+    alloc: Global,
+    name: &str,
+    netlist: &Netlist,
+    store: &mut S,
+) -> Result<Script, Stop>
+    ensures ok { IfOk result (λ s. ScriptTold (S.told store.old) name.now netlist.now s) }
+    ensures wires { IfOk result (λ s. All (IsWireOf netlist.now) s.wires) }
+    ensures err { IfErr result (StopsAtFile
+        (ScriptRefused (S.told store.old) name.now netlist.now)
+        (Rose (S.faults store.old) (S.faults store.new) × (S.last_failed store.new ≡ name.now)) name.now) }
+{
+    let bytes = fetched(alloc, name, store)?;
+    script_of_bytes(alloc, netlist, &bytes)
 }

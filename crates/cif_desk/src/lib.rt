@@ -5,9 +5,11 @@ mod command;
 mod desk;
 mod evaluation;
 mod files;
+mod live;
 mod refusal;
 mod stop;
 mod text;
 
 pub use command::waits;
-pub use desk::{cellift, quiet};
+pub use desk::quiet;
+pub use live::cellift;

@@ -4,7 +4,7 @@ ghost use Rattle.std.specs.Fmt.{decimal};
 ghost use Rattle.cif_defs.specs.Text.{coded};
 ghost use Rattle.cif_defs.specs.Messages.{read_fault_line};
 ghost use Rattle.cif_defs.specs.Accepted.{netlist_of};
-ghost use Rattle.cif_desk.specs.Refusals.{refusal, port_refusal, bit_refusal, json_refusal, build_refusal, loop_refusal, stim_refusal, too_long, line_of};
+ghost use Rattle.cif_desk.specs.Refusals.{refusal, port_refusal, bit_refusal, json_refusal, build_refusal, loop_refusal, stim_refusal, script_refusal, too_long, line_of};
 ghost use Rattle.cif_desk.specs.Stops.{IsStopOf, IsUnread, StopsBy};
 
 use crate::stop::{Line, Stop};
@@ -12,6 +12,7 @@ use crate::text::{Piece, refusal_line};
 use Piece::{Name, Number, Plain};
 use cif_cells::{BuildFault, Netlist, Spot};
 use cif_json::JsonFault;
+use cif_script::ScriptFault;
 use cif_stimulus::StimFault;
 use cif_text::push_name;
 use std::alloc::{AllocError, Global};
@@ -211,6 +212,23 @@ fn stim_line(alloc: Global, fault: &StimFault) -> Result<Vec<u8>, AllocError>
     }
 }
 
+/// The line of a text that isn't read as a script of sessions. Want of memory has none.
+fn script_line(alloc: Global, fault: &ScriptFault) -> Result<Vec<u8>, AllocError>
+    ensures { IfOk result (λ line. option_map line_of (script_refusal fault.now) ≡ Some line.items) }
+{
+    match fault {
+        ScriptFault::BadLine(line) => at_number(alloc, 60, "line ", *line),
+        ScriptFault::NoSuchName(line) => at_number(alloc, 61, "name at line ", *line),
+        ScriptFault::NotTwoValued(line) => {
+            at_number(alloc, 62, "no two-valued name at line ", *line)
+        }
+        ScriptFault::TooManySessions => refusal_line(alloc, 63, &[Plain("too many sessions")]),
+        ScriptFault::SameName(line) => at_number(alloc, 64, "session again at line ", *line),
+        ScriptFault::ScriptTooLarge => refusal_line(alloc, 65, &[Plain("script too large")]),
+        ScriptFault::Memory => Err(AllocError),
+    }
+}
+
 /// The line of a loop of cells.
 fn loop_line(alloc: Global, netlist: &Netlist, cells: &[u32]) -> Result<Vec<u8>, AllocError>
     requires { EachIndex cells.now (λ i. slice_index cells.now i < length (netlist_of netlist.now).cells) }
@@ -281,6 +299,13 @@ pub(crate) fn stim_stop(alloc: Global, fault: StimFault) -> Stop
     ensures { StopsBy (λ r. stim_refusal fault ≡ Some r) result }
 {
     stop_by(stim_line(alloc, &fault))
+}
+
+/// The stop of a text that isn't read as a script of sessions.
+pub(crate) fn script_stop(alloc: Global, fault: ScriptFault) -> Stop
+    ensures { StopsBy (λ r. script_refusal fault ≡ Some r) result }
+{
+    stop_by(script_line(alloc, &fault))
 }
 
 /// The stop of a file that is too long.

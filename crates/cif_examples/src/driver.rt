@@ -1,10 +1,12 @@
 // What goes over the rows of the tables.
 
-use cif_desk::{cellift, quiet};
+use cif_desk::{cellift, quiet, waits};
 use cif_io::{Bytes, CallNumbers, File, Files, MemSink, MemStore, Open};
 use std::alloc::{AllocError, Global};
 use std::process::Abort;
+use std::sync::Wait;
 use std::test::Fail;
+use std::thread::Threads;
 
 /// The numbers of the calls that fail, counted from 1, where 0 is none; and the most bytes of one call of out.
 #[derive(Clone, Copy)]
@@ -23,7 +25,7 @@ pub const NOTHING: Failing = Failing {
     most: 1000,
 };
 
-/// A command over the files `net` and `stim`, and what it has to leave.
+/// A command over the files `net`, `stim` and `script`, and what it has to leave.
 #[derive(Clone, Copy)]
 pub struct Case<'a> {
     pub name: &'a str,
@@ -31,6 +33,7 @@ pub struct Case<'a> {
     pub words: &'a str,
     pub net: &'a str,
     pub stim: &'a [u8],
+    pub script: &'a [u8],
     pub failing: Failing,
     pub status: u8,
     pub out: &'a str,
@@ -50,6 +53,7 @@ fn store(alloc: Global, case: &Case<'_>) -> Result<MemStore, AllocError> {
     let mut files = Vec::new(alloc);
     files.push(file(alloc, "net", case.net.as_bytes())?)?;
     files.push(file(alloc, "stim", case.stim)?)?;
+    files.push(file(alloc, "script", case.script)?)?;
     Ok(MemStore {
         files: Files::of(files),
         fail_at: CallNumbers::of(Vec::from_slice(alloc, &[case.failing.store])?),
@@ -81,40 +85,77 @@ fn words_of(alloc: Global, line: &str) -> Result<Vec<String>, AllocError> {
     Ok(words)
 }
 
-/// The case leaves what it has to, through the call that the program makes or through the one below it.
-fn assert_leaves(
-    rt: &impl Abort,
+/// What a command left.
+#[derive(Drop)]
+pub struct Left {
+    pub status: u8,
+    pub out: MemSink,
+    pub err: MemSink,
+}
+
+/// What a case leaves, through the call that the program makes.
+pub fn left_by_cellift(
+    rt: &(impl Threads + Wait + Sync),
     alloc: Global,
     case: &Case<'_>,
-    is_quiet: bool,
-) -> Result<(), AllocError> {
+) -> Result<Left, AllocError> {
     let words = words_of(alloc, case.words)?;
     let mut store = store(alloc, case)?;
     let mut out = sink(alloc, case.failing.out, case.failing.most)?;
     let mut err = sink(alloc, case.failing.err, 1000)?;
-    let status = if is_quiet {
-        quiet(alloc, &words, &mut store, &mut out, &mut err)
-    } else {
-        cellift(rt, alloc, &words, &mut store, &mut out, &mut err, &Open)
-    };
-    assert_eq!(rt; err.bytes.items(), case.err.as_bytes(), "{}", case.name);
-    assert_eq!(rt; out.bytes.items(), case.out.as_bytes(), "{}", case.name);
-    assert_eq!(rt; status, case.status, "{}", case.name);
-    Ok(())
+    let status = cellift(rt, alloc, &words, &mut store, &mut out, &mut err, &Open);
+    Ok(Left { status, out, err })
 }
 
-/// Each case leaves what it has to.
-pub fn assert_cases(rt: &impl Abort, alloc: Global, cases: &[Case<'_>]) -> Result<(), Fail> {
+/// What a case leaves, through the call that never waits; none where the words ask for what may wait.
+fn left_by_quiet(alloc: Global, case: &Case<'_>) -> Result<Option<Left>, AllocError> {
+    let words = words_of(alloc, case.words)?;
+    if waits(&words) {
+        return Ok(None);
+    }
+    let mut store = store(alloc, case)?;
+    let mut out = sink(alloc, case.failing.out, case.failing.most)?;
+    let mut err = sink(alloc, case.failing.err, 1000)?;
+    let status = quiet(alloc, &words, &mut store, &mut out, &mut err);
+    Ok(Some(Left { status, out, err }))
+}
+
+/// What was left is what the case has to leave.
+fn assert_left(rt: &impl Abort, case: &Case<'_>, left: &Left) {
+    assert_eq!(rt;
+        left.err.bytes.items(),
+        case.err.as_bytes(),
+        "{}",
+        case.name
+    );
+    assert_eq!(rt;
+        left.out.bytes.items(),
+        case.out.as_bytes(),
+        "{}",
+        case.name
+    );
+    assert_eq!(rt; left.status, case.status, "{}", case.name);
+}
+
+/// Each case leaves what it has to, through the call that the program makes and through the one below it.
+pub fn assert_cases(
+    rt: &(impl Abort + Threads + Wait + Sync),
+    alloc: Global,
+    cases: &[Case<'_>],
+) -> Result<(), Fail> {
     for case in cases {
-        assert_leaves(rt, alloc, case, true)?;
-        assert_leaves(rt, alloc, case, false)?;
+        if let Some(left) = left_by_quiet(alloc, case)? {
+            assert_left(rt, case, &left);
+        }
+        let left = left_by_cellift(rt, alloc, case)?;
+        assert_left(rt, case, &left);
     }
     Ok(())
 }
 
 /// The words over a netlist and a stimulus say a text.
 pub fn assert_says(
-    rt: &impl Abort,
+    rt: &(impl Abort + Threads + Wait + Sync),
     alloc: Global,
     name: &str,
     files: (&str, &str),
@@ -131,6 +172,7 @@ pub fn assert_says(
         },
         net,
         stim: stim.as_bytes(),
+        script: b"",
         failing: NOTHING,
         status: if is_refused { 2 } else { 0 },
         out: if is_refused { "" } else { said },
@@ -181,7 +223,7 @@ fn plain(alloc: Global, head: &str, lines: &str) -> Result<String, AllocError> {
 /// stimulus below some first lines. What is said stands on err where it begins with `refused`, else on out, and a line
 /// end comes after it.
 fn assert_row(
-    rt: &impl Abort,
+    rt: &(impl Abort + Threads + Wait + Sync),
     alloc: Global,
     net: &str,
     head: &str,
@@ -203,7 +245,7 @@ fn assert_row(
 
 /// The rows of each table, a line each, hold of its netlist.
 pub fn assert_tables(
-    rt: &impl Abort,
+    rt: &(impl Abort + Threads + Wait + Sync),
     alloc: Global,
     head: &str,
     tables: &[(&str, &str)],

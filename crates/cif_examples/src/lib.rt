@@ -25,6 +25,8 @@ mod netlists;
 #[cfg(test)]
 mod pages;
 #[cfg(test)]
+mod sessions;
+#[cfg(test)]
 mod state;
 #[cfg(test)]
 mod stimuli;

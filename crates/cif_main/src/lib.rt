@@ -6,6 +6,8 @@ use cif_io::{FileStore, Open, StdSink, write_all};
 use std::io::Write;
 use std::process::ExitCode;
 use std::rt::{Env, Files};
+use std::sync::Wait;
+use std::thread::Threads;
 use std::{env, io};
 
 /// The words after the program's name. Where one of them is no text, there are none: they fit no form either.
@@ -26,12 +28,11 @@ fn tell_memory<E: Write>(err: &mut StdSink<E>) -> u8 {
 }
 
 /// Does what the words of the command line ask, over the files of the system, and ends with the status of `cellift`.
-/// Texts go to `out`, and what is told of a failure to `err`.
-pub fn run<R: Env + Files + AllocGlobal, W: Write + Drop, E: Write + Drop>(
-    rt: &R,
-    out: W,
-    err: E,
-) -> ExitCode {
+/// Texts go to `out`, and what is told of a failure to `err`. The sessions and workers of `run` are threads of the runtime.
+pub fn run<R, W: Write + Drop, E: Write + Drop>(rt: &R, out: W, err: E) -> ExitCode
+where
+    R: Env + Files + AllocGlobal + Threads + Wait + Sync,
+{
     let alloc = rt.alloc();
     let mut out = StdSink::new(out);
     let mut err = StdSink::new(err);

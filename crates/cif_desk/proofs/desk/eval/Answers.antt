@@ -23,7 +23,7 @@ returns-in_err-stimulus-clause-out g c =
 pub returns-in_err-stimulus-clause-cause : goal.returns-in_err-stimulus-clause-cause
 returns-in_err-stimulus-clause-cause g c =
     let p = err_from_is_err_and c.from_residual-in_err-stimulus.result c.from_residual-in_err-stimulus.ensures.1 in
-    rw (p.1, p.2) (cause_at_stimulus _ _ c.args.net.now c.args.stim.now _ c.in_ok-accepted.accepted.netlist _ _ _ c.in_err-stimulus.field-0.0
+    rw (p.1, p.2) (cause_at_stimulus _ _ (eval c.args.net.now c.args.stim.now) c.args.stim.now _ c.in_ok-accepted.accepted.netlist _ _ _ c.in_err-stimulus.field-0.0 refl
     c.in_ok-accepted.ensures.same_files (Rose-since _ _ _ c.in_ok-accepted.ensures.kept) c.in_ok-accepted.ensures.ok c.in_err-stimulus.ensures.err)
 
 pub returns-in_err-case-clause-out : goal.returns-in_err-case-clause-out

@@ -1,0 +1,4 @@
+pub mod Crossing
+pub mod Listing
+pub mod Reading
+pub mod Texts

@@ -1,0 +1,5 @@
+//! Live runs by example.
+#![tactic(auto)]
+
+#[cfg(test)]
+mod runs;
