@@ -20,9 +20,9 @@ pub numbered_more : (rs more : List ReaderOf) (r : ReaderOf) → AreNumbered rs 
 numbered_more rs more r h is e i d low =
     let count = one_more rs more r e in
     below_more (λ j. (get_or more j d).number ≡ j) (length rs)
-      (λ j less. ap (λ (zs : List ReaderOf). (get_or zs j d).number) e ∙ ap number_of (get_or_append_left rs (r ∷ []) d j less) ∙ h j d less)
-      (ap (λ (zs : List ReaderOf). (get_or zs (length rs) d).number) e ∙ ap number_of (get_or-append_seam rs r [] d) ∙ is)
-      i (omega (arith, count, low))
+    (λ j less. ap (λ (zs : List ReaderOf). (get_or zs j d).number) e ∙ ap number_of (get_or_append_left rs (r ∷ []) d j less) ∙ h j d less)
+    (ap (λ (zs : List ReaderOf). (get_or zs (length rs) d).number) e ∙ ap number_of (get_or-append_seam rs r [] d) ∙ is)
+    i (omega (arith, count, low))
 
 -- one transcript more, of the next session
 pub legal_more : (n : Netlist) (s : Stimulus) (script : ScriptData) (ts more : List (List Answer)) (t : List Answer)
@@ -32,9 +32,9 @@ legal_more n s script ts more t h last e i low =
     let Q : ℕ → List (List Answer) → Type 0 = λ j all. P j (get_or all j []) in
     let count = one_more ts more t e in
     below_more (λ j. Q j more) (length ts)
-      (λ j less. subst (Q j) (sym e) (subst (P j) (sym (get_or_append_left ts (t ∷ []) [] j less)) (h j less)))
-      (subst (Q (length ts)) (sym e) (subst (P (length ts)) (sym (get_or-append_seam ts t [] [])) last))
-      i (omega (arith, count, low))
+    (λ j less. subst (Q j) (sym e) (subst (P j) (sym (get_or_append_left ts (t ∷ []) [] j less)) (h j less)))
+    (subst (Q (length ts)) (sym e) (subst (P (length ts)) (sym (get_or-append_seam ts t [] [])) last))
+    i (omega (arith, count, low))
 
 -- readers of the same numbers
 pub same_number : (rs more : List ReaderOf) → map number_of more ≡ map number_of rs → (i : ℕ) (d : ReaderOf) → i < length more → (get_or more i d).number ≡ (get_or rs i d).number

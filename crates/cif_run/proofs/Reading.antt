@@ -168,7 +168,7 @@ pub reads_more : (c : CaseOf) (script now : ScriptData) (number same : ℕ) (bef
 reads_more c script now number same before after answers more lines next d reply answer ours h kept are place low is longer step =
     let P : ScriptData → Option Answer → List Line → ℕ → Type 0 = λ z r ls k. Replies (net_of c) c.stimulus z.wires before (get_or ls k d) r after in
     let here : P script (Some answer) (lines_at script.sessions number) (length answers) = subst (λ k. P script (Some answer) (lines_at script.sessions number) k) place
-        (subst (λ ls. P script (Some answer) ls next) are (subst (λ r. P script r lines next) is (subst (λ z. P z reply lines next) ours step))) in
+    (subst (λ ls. P script (Some answer) ls next) are (subst (λ r. P script r lines next) is (subst (λ z. P z reply lines next) ours step))) in
     let low_there : length answers < length (lines_at script.sessions number) = subst (λ k. k < length (lines_at script.sessions number)) place (subst (λ (ls : List Line). next < length ls) are low) in
     subst (λ k. IsReading c script k after more) (sym kept) (reads_on c script number before after answers more d answer h low_there longer here)
 
