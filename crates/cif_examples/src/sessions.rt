@@ -23,6 +23,12 @@ const RUN: Case<'static> = Case {
     err: "",
 };
 
+/// Its transcript, without the line of the workers.
+const SESSION: Case<'static> = Case {
+    out: "session s\ncycle 2\nshow q 0010/0000\nback 2\ncycle 3\npast 5\nend\n",
+    ..RUN
+};
+
 /// Words that ask for no run.
 const NO_RUN: Case<'static> = Case {
     name: "usage, a run without its size",
@@ -87,7 +93,7 @@ const OF_WORDS: [Case<'static>; 11] = [
     },
 ];
 
-const OF_FAILURES: [Case<'static>; 6] = [
+const OF_FAILURES: [Case<'static>; 11] = [
     Case {
         name: "run-store-fails, call 1",
         failing: Failing {
@@ -122,6 +128,23 @@ const OF_FAILURES: [Case<'static>; 6] = [
         ..RUN
     },
     Case {
+        name: "no sessions file",
+        words: "run net stim SCRIPT 1 1 2",
+        status: 3,
+        out: "",
+        err: "read fault: SCRIPT\n",
+        ..RUN
+    },
+    Case {
+        name: "the netlist is refused before the stimulus is fetched",
+        words: "run net STIM script 1 1 2",
+        net: "",
+        status: 2,
+        out: "",
+        err: "refused 1: not JSON\n",
+        ..RUN
+    },
+    Case {
         name: "the stimulus is refused before the sessions are fetched",
         words: "run net stim SCRIPT 1 1 2",
         stim: b"",
@@ -150,6 +173,33 @@ const OF_FAILURES: [Case<'static>; 6] = [
         err: "write fault\n",
         ..RUN
     },
+    Case {
+        name: "err fails where it takes the usage line",
+        words: "run net stim script 1 1 1",
+        failing: Failing { err: 1, ..NOTHING },
+        status: 4,
+        out: "",
+        ..RUN
+    },
+    Case {
+        name: "err fails where it takes a refusal",
+        script: b"",
+        failing: Failing { err: 1, ..NOTHING },
+        status: 4,
+        out: "",
+        ..RUN
+    },
+    Case {
+        name: "err fails where it takes a read fault",
+        failing: Failing {
+            store: 3,
+            err: 1,
+            ..NOTHING
+        },
+        status: 4,
+        out: "",
+        ..RUN
+    },
 ];
 
 /// A script that is refused.
@@ -162,7 +212,7 @@ const REFUSED: Case<'static> = Case {
     ..RUN
 };
 
-const OF_SCRIPTS: [Case<'static>; 8] = [
+const OF_SCRIPTS: [Case<'static>; 7] = [
     REFUSED,
     Case {
         name: "session-refusals, 62",
@@ -200,13 +250,6 @@ const OF_SCRIPTS: [Case<'static>; 8] = [
         out: "workers 5\n",
         ..RUN
     },
-    Case {
-        name: "window-waits",
-        stim: b"cellift-stimulus 1\ncycles 50\n",
-        script: b"cellift-sessions 1\nsession a\nat 0\nat 45\nsession b\nat 40\n",
-        out: "session a\ncycle 0\ncycle 45\nend\nsession b\ncycle 40\nend\nworkers 50\n",
-        ..RUN
-    },
 ];
 
 #[test]
@@ -230,36 +273,78 @@ fn counted(line: &str) -> (u64, u64) {
     (count, sum)
 }
 
-/// The counter's session has one transcript, however the run is cut, and the workers' counts add up.
-fn assert_session(
+/// A session has one transcript, however the run is cut, and the workers' counts add up.
+fn assert_transcript(
     rt: &(impl Abort + Threads + Wait + Sync),
     alloc: Global,
-    words: &str,
+    case: &Case<'_>,
     wanted: (u64, u64),
 ) -> Result<(), Fail> {
-    let left = left_by_cellift(rt, alloc, &Case { words, ..RUN })?;
+    let left = left_by_cellift(rt, alloc, case)?;
     let text = str::from_utf8(left.out.bytes.items()).expect(rt, "a text");
     let Some((transcript, counts)) = text.split_once("workers") else {
-        panic!(rt; "the workers' counts: {words}");
+        panic!(rt; "the workers' counts: {}", case.words);
     };
-    assert_eq!(rt;
-        transcript,
-        "session s\ncycle 2\nshow q 0010/0000\nback 2\ncycle 3\npast 5\nend\n"
-    );
-    let counts = counts.trim_end();
-    assert_eq!(rt; counted(counts), wanted, "{words}");
-    assert_eq!(rt; left.status, 0, "{words}");
+    assert_eq!(rt; transcript, case.out, "{}", case.words);
+    assert_eq!(rt; counted(counts.trim_end()), wanted, "{}", case.words);
+    assert_eq!(rt; left.status, case.status, "{}", case.words);
     Ok(())
 }
 
+/// The counter over 50 cycles: the window keeps the second session's frame back until the first has gone on.
+const WAITING: Case<'static> = Case {
+    name: "window-waits",
+    stim: b"cellift-stimulus 1\ncycles 50\n",
+    script: b"cellift-sessions 1\nsession a\nat 0\nat 45\nsession b\nat 40\n",
+    out: "session a\ncycle 0\ncycle 45\nend\nsession b\ncycle 40\nend\n",
+    ..RUN
+};
+
+/// Sessions, the words of runs, and how many workers and pieces they count.
+const CUT: [(Case<'static>, &str, u64, u64); 12] = [
+    (SESSION, "run net stim script 1 1 2", 1, 5),
+    (SESSION, "run net stim script 1 3 2", 1, 15),
+    (SESSION, "run net stim script 1 64 2", 1, 320),
+    (SESSION, "run net stim script 2 1 2", 2, 5),
+    (SESSION, "run net stim script 2 3 2", 2, 15),
+    (SESSION, "run net stim script 2 64 2", 2, 320),
+    (SESSION, "run net stim script 7 1 2", 7, 5),
+    (SESSION, "run net stim script 7 3 2", 7, 15),
+    (SESSION, "run net stim script 7 64 2", 7, 320),
+    (SESSION, "run net stim script 32 64 64", 32, 320),
+    (WAITING, "run net stim script 1 1 2", 1, 50),
+    (WAITING, "run net stim script 3 2 2", 3, 100),
+];
+
 #[test]
-fn counter_session(rt: HostRuntime) -> Result<(), Fail> {
-    for (words, workers, pieces) in [
-        ("run net stim script 1 1 2", 1, 5),
-        ("run net stim script 2 3 2", 2, 15),
-        ("run net stim script 7 64 2", 7, 320),
-    ] {
-        assert_session(&rt, rt.alloc(), words, (workers, pieces))?;
+fn counter_session_and_window_waits(rt: HostRuntime) -> Result<(), Fail> {
+    for (case, words, workers, pieces) in &CUT {
+        let case = Case { words, ..*case };
+        assert_transcript(&rt, rt.alloc(), &case, (*workers, *pieces))?;
     }
     Ok(())
+}
+
+/// The example `script-size`, as it is told: 2,048 lines show a wire of 65,536 bits.
+#[test]
+fn script_size(rt: HostRuntime) -> Result<(), Fail> {
+    let alloc = rt.alloc();
+    let mut net = String::from_str(alloc, r#"{"modules":{"m":{"netnames":{"w":{"bits":["1""#)?;
+    for _bit in 1..65_536 {
+        net.push_str(r#","1""#)?;
+    }
+    net.push_str("]}}}}}")?;
+    let mut script = String::from_str(alloc, "cellift-sessions 1\nsession s\n")?;
+    for _line in 0..2048 {
+        script.push_str("show w\n")?;
+    }
+    let case = Case {
+        name: "script-size",
+        net: &net,
+        stim: b"cellift-stimulus 1\ncycles 1\n",
+        script: script.as_bytes(),
+        err: "refused 65: script too large\n",
+        ..REFUSED
+    };
+    assert_cases(&rt, alloc, &[case])
 }

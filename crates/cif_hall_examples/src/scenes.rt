@@ -1,6 +1,6 @@
 // Workers and sessions that are turned by hand, over the counter in two parts with a window of 64 cycles, two workers and
 // four sessions.
-ghost use Rattle.std.specs.Prelude.{◌≡◌, ◌*◌};
+ghost use Rattle.std.specs.Prelude.{◌≡◌, ◌*◌, vec_len};
 ghost use Rattle.cif_pieces.specs.Plans.{IsPlanOf};
 
 use crate::counter::counter_case;
@@ -75,6 +75,23 @@ const LOST: [Lost; 4] = [
 /// The turns of a worker alone over a cycle.
 const CYCLE: [Turn; 3] = [Turn::Deposited, Turn::Deposited, Turn::Published];
 
+/// Its turns over the other four.
+const REST: [Turn; 13] = [
+    Turn::Deposited,
+    Turn::Deposited,
+    Turn::Published,
+    Turn::Deposited,
+    Turn::Deposited,
+    Turn::Published,
+    Turn::Deposited,
+    Turn::Deposited,
+    Turn::Published,
+    Turn::Deposited,
+    Turn::Deposited,
+    Turn::Published,
+    Turn::Ended,
+];
+
 /// Turns a worker, which does what is listed.
 fn turn_through<N: Run, R: Abort + Wait>(
     rt: &R,
@@ -89,22 +106,23 @@ fn turn_through<N: Run, R: Abort + Wait>(
 }
 
 /// No cycle is done yet.
-fn ask_early<N: Run, R: Abort + Wait>(rt: &R, alloc: Global, opened: Opened<N>) {
+fn ask_early<N: Run, R: Abort + Wait>(rt: &R, alloc: Global, opened: Opened<N>)
+    requires { vec_len opened.sessions ≡ 4 }
+{
     let Opened {
         hall,
         mut sessions,
         ..
     } = opened;
-    let [at, next, newest, _] = sessions.as_mut_slice() else {
-        panic!(rt; "four sessions");
-    };
-    assert_eq!(rt; at.try_at(rt, alloc, &hall, 0), Ok(Step::Again(0)));
-    assert_eq!(rt; next.try_next(rt, alloc, &hall), Ok(Step::Again(0)));
-    assert_eq!(rt; newest.try_newest(rt, &hall), Ok(Step::Again(0)));
+    assert_eq!(rt; sessions[0].try_at(rt, alloc, &hall, 0), Ok(Step::Again(0)));
+    assert_eq!(rt; sessions[1].try_next(rt, alloc, &hall), Ok(Step::Again(0)));
+    assert_eq!(rt; sessions[2].try_newest(rt, &hall), Ok(Step::Again(0)));
 }
 
 /// The want of memory of some role is told to whoever asks, and ends the workers.
-fn ask_after_failure<N: Run, R: Abort + Wait>(rt: &R, alloc: Global, opened: Opened<N>) {
+fn ask_after_failure<N: Run, R: Abort + Wait>(rt: &R, alloc: Global, opened: Opened<N>)
+    requires { vec_len opened.sessions ≡ 4 }
+{
     let Opened {
         hall,
         mut workers,
@@ -113,19 +131,21 @@ fn ask_after_failure<N: Run, R: Abort + Wait>(rt: &R, alloc: Global, opened: Ope
     let [worker, _] = workers.as_mut_slice() else {
         panic!(rt; "two workers");
     };
-    let [at, next, newest, tried] = sessions.as_mut_slice() else {
-        panic!(rt; "four sessions");
-    };
     hall.fail(rt);
-    assert_eq!(rt; at.at(rt, alloc, &hall, 0), Err(AtFault::Memory));
-    assert_eq!(rt; next.next(rt, alloc, &hall), Err(AtFault::Memory));
-    assert_eq!(rt; newest.newest(rt, &hall), Err(AtFault::Memory));
-    assert_eq!(rt; tried.try_at(rt, alloc, &hall, 0), Err(AtFault::Memory));
+    assert_eq!(rt; sessions[0].at(rt, alloc, &hall, 0), Err(AtFault::Memory));
+    assert_eq!(rt; sessions[1].next(rt, alloc, &hall), Err(AtFault::Memory));
+    assert_eq!(rt; sessions[2].newest(rt, &hall), Err(AtFault::Memory));
+    assert_eq!(rt;
+        sessions[3].try_at(rt, alloc, &hall, 0),
+        Err(AtFault::Memory)
+    );
     turn_through(rt, alloc, &hall, worker, &[Turn::Ended]);
 }
 
 /// The last frame of all is pinned by those who had pinned the first, and by those who had pinned none.
-fn ask_newest<N: Run, R: Abort + Wait>(rt: &R, alloc: Global, opened: Opened<N>) {
+fn ask_newest<N: Run, R: Abort + Wait>(rt: &R, alloc: Global, opened: Opened<N>)
+    requires { vec_len opened.sessions ≡ 4 }
+{
     let Opened {
         hall,
         mut workers,
@@ -134,20 +154,14 @@ fn ask_newest<N: Run, R: Abort + Wait>(rt: &R, alloc: Global, opened: Opened<N>)
     let [worker, _] = workers.as_mut_slice() else {
         panic!(rt; "two workers");
     };
-    let [first, second, third, fourth] = sessions.as_mut_slice() else {
-        panic!(rt; "four sessions");
-    };
     turn_through(rt, alloc, &hall, worker, &CYCLE);
-    assert_eq!(rt; first.at(rt, alloc, &hall, 0), Ok(()));
-    assert_eq!(rt; second.at(rt, alloc, &hall, 0), Ok(()));
-    for _cycle in 1..5 {
-        turn_through(rt, alloc, &hall, worker, &CYCLE);
-    }
-    turn_through(rt, alloc, &hall, worker, &[Turn::Ended]);
-    assert_eq!(rt; first.newest(rt, &hall), Ok(()));
-    assert_eq!(rt; second.try_newest(rt, &hall), Ok(Step::Pinned));
-    assert_eq!(rt; third.newest(rt, &hall), Ok(()));
-    assert_eq!(rt; fourth.try_newest(rt, &hall), Ok(Step::Pinned));
+    assert_eq!(rt; sessions[0].at(rt, alloc, &hall, 0), Ok(()));
+    assert_eq!(rt; sessions[1].at(rt, alloc, &hall, 0), Ok(()));
+    turn_through(rt, alloc, &hall, worker, &REST);
+    assert_eq!(rt; sessions[0].newest(rt, &hall), Ok(()));
+    assert_eq!(rt; sessions[1].try_newest(rt, &hall), Ok(Step::Pinned));
+    assert_eq!(rt; sessions[2].newest(rt, &hall), Ok(()));
+    assert_eq!(rt; sessions[3].try_newest(rt, &hall), Ok(Step::Pinned));
     for session in &sessions {
         assert_eq!(rt; session.cycle(), Some(4));
     }
@@ -287,7 +301,7 @@ fn play<N: Run, R: Abort + Wait>(
 }
 
 /// A scene, in a hall of its own.
-fn play_anew<R: Abort + Wait>(rt: &R, alloc: Global, scene: Scene) -> Result<(), Fail> {
+fn assert_scene<R: Abort + Wait>(rt: &R, alloc: Global, scene: Scene) -> Result<(), Fail> {
     let case = counter_case(rt, alloc)?;
     let plan = plan(alloc, &case, 2)?;
     play::<Brand, R>(rt, alloc, Blank::new(2), case, plan, scene)
@@ -295,33 +309,33 @@ fn play_anew<R: Abort + Wait>(rt: &R, alloc: Global, scene: Scene) -> Result<(),
 
 #[test]
 fn asked_early(rt: HostRuntime) -> Result<(), Fail> {
-    play_anew(&rt, rt.alloc(), Scene::Early)
+    assert_scene(&rt, rt.alloc(), Scene::Early)
 }
 
 #[test]
 fn asked_after_a_failure(rt: HostRuntime) -> Result<(), Fail> {
-    play_anew(&rt, rt.alloc(), Scene::Failed)
+    assert_scene(&rt, rt.alloc(), Scene::Failed)
 }
 
 #[test]
 fn asked_for_the_newest(rt: HostRuntime) -> Result<(), Fail> {
-    play_anew(&rt, rt.alloc(), Scene::Newest)
+    assert_scene(&rt, rt.alloc(), Scene::Newest)
 }
 
 #[test]
 fn asked_apart(rt: HostRuntime) -> Result<(), Fail> {
-    play_anew(&rt, rt.alloc(), Scene::Apart)
+    assert_scene(&rt, rt.alloc(), Scene::Apart)
 }
 
 #[test]
 fn turned_late(rt: HostRuntime) -> Result<(), Fail> {
-    play_anew(&rt, rt.alloc(), Scene::Late)
+    assert_scene(&rt, rt.alloc(), Scene::Late)
 }
 
 #[test]
 fn closed_after_a_loss(rt: HostRuntime) -> Result<(), Fail> {
     for lost in LOST {
-        play_anew(&rt, rt.alloc(), Scene::Lost(lost))?;
+        assert_scene(&rt, rt.alloc(), Scene::Lost(lost))?;
     }
     Ok(())
 }

@@ -96,7 +96,7 @@ fn assert_told(
 }
 
 /// Runs a row without a thread, in fewer than 100,000 turns.
-fn run_row_alone<R: Abort + Wait>(
+fn assert_run_alone<R: Abort + Wait>(
     rt: &R,
     alloc: Global,
     row: &Row,
@@ -114,7 +114,7 @@ fn run_row_alone<R: Abort + Wait>(
 /// Roles that the caller turns alone.
 #[test]
 fn turned_by_the_caller(rt: HostRuntime) -> Result<(), Fail> {
-    run_row_alone(&rt, rt.alloc(), &SESSION, 1, 1)?;
-    run_row_alone(&rt, rt.alloc(), &SESSION, 2, 3)?;
-    run_row_alone(&rt, rt.alloc(), &WAITING, 2, 2)
+    assert_run_alone(&rt, rt.alloc(), &SESSION, 1, 1)?;
+    assert_run_alone(&rt, rt.alloc(), &SESSION, 2, 3)?;
+    assert_run_alone(&rt, rt.alloc(), &WAITING, 2, 2)
 }

@@ -1,4 +1,4 @@
-use Rattle.cif_hall_examples.proofs.scenes.play_anew.Given as goal
+use Rattle.cif_hall_examples.proofs.scenes.assert_scene.Given as goal
 
 abbrev pub ghosts-play-N-Run : goal.ghosts-play-N-Run
 ghosts-play-N-Run g a = record { case = a.case; plan = a.plan; window = 64; sessions = 4 }
