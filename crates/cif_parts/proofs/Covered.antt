@@ -1,7 +1,7 @@
--- Which net bits the cells cover of which a part needs what they store: those that its passing cells work out, and all that
--- these read.
-use Rattle.std.specs.Prelude.{ℕ, suc, ◌<◌, ◌≡◌, ◌==◌, true, false, List, [], ◌∷◌, length, get_or, Some, refl}
-use Rattle.std.proofs.Common.{arith, sym, ap, subst, ◌∙◌, inl, inr}
+-- Which net bits the cells cover that a part uses: those that its passing cells work out, and all that these read.
+use Rattle.std.specs.Prelude.{ℕ, suc, ◌+◌, ◌<◌, ◌≡◌, ◌⊎◌, ◌==◌, true, false, List, [], ◌∷◌, ◌++◌, length, get_or, Some, refl}
+use Rattle.std.proofs.Common.{arith, sym, ap, subst, ◌∙◌, inl, inr, length-append}
+use Rattle.std.proofs.lemmas.List.{get_or_append_left}
 use Rattle.std.proofs.lemmas.Bool.Decides.{nat_tests}
 use Rattle.std.proofs.lemmas.List.Folds.{list_any_at}
 use Rattle.cif_defs.specs.Cells.{Cell}
@@ -16,10 +16,10 @@ use Rattle.cif_defs.specs.declared.nets.Src.TheVariants.{Bit}
 use Rattle.cif_defs.proofs.Exact.{or_true}
 use Rattle.cif_defs.proofs.Orders.{has_place, in_range, place_in}
 use Rattle.cif_shown.specs.Shown.{AreClosed, CoverBits}
-use Rattle.cif_pieces.specs.Parts.{Evaluates, EvaluatesInTurn, Needs, OwnsCell, OwnsNet, driver_owner, owner}
+use Rattle.cif_pieces.specs.Parts.{Evaluates, EvaluatesInTurn, Needs, OwnsCell, OwnsNet, Uses, driver_owner, owner, stores}
 use Rattle.cif_pieces.specs.Plans.{IsPlanOf, Lists, PlanOf}
 use Rattle.cif_seq.specs.Cases.{CaseOf, net_of}
-use Rattle.cif_parts.specs.Running.{AreCells, covers, covers_by, is_among}
+use Rattle.cif_parts.specs.Running.{AreStoring, covers, covers_by, is_among, used_cells}
 use Rattle.cif_parts.proofs.Leading.{feeds_passing, feeds_on}
 use Rattle.cif_parts.proofs.Listings.{comes_placed}
 use Rattle.cif_parts.proofs.Meeting.{role_inside}
@@ -48,21 +48,71 @@ listed_among order P cells c h p = let at = h.has_each c p in among_at cells at.
 pub among_listed : (order : List ℕ) (P : ℕ → Type 0) (cells : List ℕ) (c : ℕ) → Lists order P cells → is_among cells c ≡ true → P c
 among_listed order P cells c h e = let at = among_found cells c e in subst (λ (x : ℕ). P x) at.2 (h.only at.0 at.1)
 
--- ---- cells that a part needs are cells of the netlist
+among_left : (xs ys : List ℕ) (c : ℕ) → is_among xs c ≡ true → is_among (xs ++ ys) c ≡ true
+among_left xs ys c h =
+    let at = among_found xs c h in
+    let l : at.0 < length xs = at.1 in
+    let z : length (xs ++ ys) ≡ length xs + length ys = length-append xs ys in
+    among_at (xs ++ ys) at.0 c (omega arith) (get_or_append_left xs ys 0 at.0 l ∙ at.2)
+
+among_right : (xs ys : List ℕ) (c : ℕ) → is_among ys c ≡ true → is_among (xs ++ ys) c ≡ true
+among_right [] ys c h = h
+among_right (x ∷ xs) ys c h = let at = among_found (xs ++ ys) c (among_right xs ys c h) in let l : at.0 < length (xs ++ ys) = at.1 in among_at (x ∷ xs ++ ys) (suc at.0) c (omega arith) at.2
+
+among_either : (xs ys : List ℕ) (c : ℕ) → is_among (xs ++ ys) c ≡ true → (is_among xs c ≡ true) ⊎ (is_among ys c ≡ true)
+among_either [] ys c h = inr h
+among_either (x ∷ xs) ys c h = elim (or_true (x == c) (is_among (xs ++ ys) c) h) [
+  | inl e ↦ inl (among_at (x ∷ xs) 0 c (omega arith) (same_number x c e))
+  | inr e ↦ elim (among_either xs ys c e) [
+    | inl f ↦ (let at = among_found xs c f in let l : at.0 < length xs = at.1 in inl (among_at (x ∷ xs) (suc at.0) c (omega arith) at.2))
+    | inr f ↦ inr f
+  ]
+]
+
+-- ---- the cells that a part uses, as a plan lists them
+
+-- a list has the cells that a part uses, and no others
+pub record AreUsed (n : Netlist) (parts part : ℕ) (cells : List ℕ) : Type 0 where
+  pub each : (c : ℕ) → Uses n parts part c → is_among cells c ≡ true
+  pub only : (c : ℕ) → is_among cells c ≡ true → Uses n parts part c
+
+pub plan_uses : (c : CaseOf) (p : PlanOf) (part : ℕ) → IsPlanOf c p → part < p.parts → AreUsed (net_of c) p.parts part (used_cells p part)
+plan_uses c p part h l = record {
+  each = λ x uses. elim uses [
+    | inl e ↦ among_left evaluated needed x (listed_among c.order (Evaluates (net_of c) p.parts part) evaluated x (h.evaluated part l) e)
+    | inr r ↦ among_right evaluated needed x (listed_among c.order (Needs (net_of c) p.parts part) needed x (h.needed part l) (inr r, ap stores r.shows.plain))
+  ];
+  only = λ x e. elim (among_either evaluated needed x e) [
+    | inl f ↦ inl (among_listed c.order (Evaluates (net_of c) p.parts part) evaluated x (h.evaluated part l) f)
+    | inr f ↦ (among_listed c.order (Needs (net_of c) p.parts part) needed x (h.needed part l) f).0
+  ];
+} where
+  evaluated : List ℕ
+  evaluated = get_or p.evaluated part []
+
+  needed : List ℕ
+  needed = get_or p.needed part []
+
+-- ---- cells that a part uses are cells of the netlist
 
 evaluates_inside : (n : Netlist) (parts part c : ℕ) → Evaluates n parts part c → c < length n.cells
 evaluates_inside n parts part c (inl owns) = owns.0
 evaluates_inside n parts part c (inr feeds) = in_range n c (feeds_passing n parts part c feeds)
 
-needs_inside : (n : Netlist) (parts part c : ℕ) → Needs n parts part c → c < length n.cells
-needs_inside n parts part c (inl e) = evaluates_inside n parts part c e
-needs_inside n parts part c (inr read) = role_inside n c (λ e. absurd (let z : PlainRegister ≡ CarriedOver = sym read.shows.plain ∙ e in cc))
+pub uses_inside : (n : Netlist) (parts part c : ℕ) → Uses n parts part c → c < length n.cells
+uses_inside n parts part c (inl e) = evaluates_inside n parts part c e
+uses_inside n parts part c (inr read) = role_inside n c (λ e. absurd (let z : PlainRegister ≡ CarriedOver = sym read.shows.plain ∙ e in cc))
 
-are_cells : (n : Netlist) (order : List ℕ) (parts part : ℕ) (needed : List ℕ) → Lists order (Needs n parts part) needed → AreCells n needed
-are_cells n order parts part needed h = λ i l. needs_inside n parts part (get_or needed i 0) (h.only i l)
+pub used_inside : (n : Netlist) (parts part : ℕ) (used : List ℕ) (i : ℕ) → AreUsed n parts part used → i < length used → get_or used i 0 < length n.cells
+used_inside n parts part used i h l = uses_inside n parts part (get_or used i 0) (h.only (get_or used i 0) (among_at used i (get_or used i 0) l refl))
 
-pub plan_cells : (c : CaseOf) (p : PlanOf) (part : ℕ) (needed : List ℕ) → IsPlanOf c p → part < p.parts → needed ≡ get_or p.needed part [] → AreCells (net_of c) needed
-plan_cells c p part needed h l e = are_cells (net_of c) c.order p.parts part needed (subst (λ (xs : List ℕ). Lists c.order (Needs (net_of c) p.parts part) xs) (sym e) (h.needed part l))
+pub plan_storing : (c : CaseOf) (p : PlanOf) (part : ℕ) (needed : List ℕ) → IsPlanOf c p → part < p.parts → needed ≡ get_or p.needed part [] → AreStoring (net_of c) needed
+plan_storing c p part needed h l e =
+    let lists : Lists c.order (Needs (net_of c) p.parts part) needed = subst (λ (xs : List ℕ). Lists c.order (Needs (net_of c) p.parts part) xs) (sym e) (h.needed part l) in
+    record {
+      inside = λ i m. uses_inside (net_of c) p.parts part (get_or needed i 0) (lists.only i m).0;
+      storing = λ i m. (lists.only i m).1;
+    }
 
 -- ---- a covered bit's cell is listed
 
@@ -76,15 +126,15 @@ among_by cells c Clock h e = absurd (cc)
 pub driver_among : (n : Netlist) (cells : List ℕ) (b c : ℕ) → covers n cells b ≡ true → is_of_cell c (driver_of n b) ≡ true → is_among cells c ≡ true
 driver_among n cells b c h e = among_by cells c (driver_of n b) h e
 
--- a passing cell of which a part needs what it stores is evaluated
-needs_evaluates : (n : Netlist) (parts part c : ℕ) → is_passing (role_at n c) ≡ true → Needs n parts part c → Evaluates n parts part c
-needs_evaluates n parts part c p (inl e) = e
-needs_evaluates n parts part c p (inr read) = absurd (let z : is_passing (role_at n c) ≡ false = ap is_passing read.shows.plain in cc)
+-- a passing cell that a part uses is evaluated
+uses_evaluates : (n : Netlist) (parts part c : ℕ) → is_passing (role_at n c) ≡ true → Uses n parts part c → Evaluates n parts part c
+uses_evaluates n parts part c p (inl e) = e
+uses_evaluates n parts part c p (inr read) = absurd (let z : is_passing (role_at n c) ≡ false = ap is_passing read.shows.plain in cc)
 
 -- ---- the passing cells of a part, as a plan lists them
 
-pub part_covers : (n : Netlist) (order : List ℕ) (parts part : ℕ) (passing needed : List ℕ) → IsLevelled n order → Lists order (EvaluatesInTurn n parts part) passing → Lists order (Needs n parts part) needed → CoverBits n order passing (covers n needed)
-part_covers n order parts part passing needed o pass need = record {
+pub part_covers : (n : Netlist) (order : List ℕ) (parts part : ℕ) (passing used : List ℕ) → IsLevelled n order → Lists order (EvaluatesInTurn n parts part) passing → AreUsed n parts part used → CoverBits n order passing (covers n used)
+part_covers n order parts part passing used o pass uses = record {
   passing = λ i l. (pass.only i l).1;
   rising = λ i j f l. (
       let p = (pass.only i (let z : j < length passing = l in omega arith)).1 in let q = (pass.only j l).1 in
@@ -97,34 +147,34 @@ part_covers n order parts part passing needed o pass need = record {
         is = at.1;
         other = later.1;
       });
-  drive = λ b c k is p. pass.has_each c (needs_evaluates n parts part c p (among_listed order (Needs n parts part) needed c need (driver_among n needed b c k is)), p);
+  drive = λ b c k is p. pass.has_each c (uses_evaluates n parts part c p (uses.only c (driver_among n used b c k is)), p);
 }
 
 -- ---- what an evaluated cell reads is covered
 
 -- an operand bit of an evaluated cell, where the passing cells that drive it are evaluated
-read_covered_by : (n : Netlist) (order : List ℕ) (parts part : ℕ) (needed : List ℕ) (c q j x : ℕ) (d : Driver) → IsWired n → Lists order (Needs n parts part) needed → Evaluates n parts part c → operand_at (cell_at n c) q j ≡ Bit x
-    → ((e o f : ℕ) → is_passing (role_at n e) ≡ true → output_at (cell_at n e) o f ≡ Some x → Evaluates n parts part e) → driver_of n x ≡ d → covers_by needed d ≡ true
-read_covered_by n order parts part needed c q j x (Input p i) w need ev at fed e = refl
-read_covered_by n order parts part needed c q j x Clock w need ev at fed e = refl
-read_covered_by n order parts part needed c q j x (Output y p i) w need ev at fed e =
-    listed_among order (Needs n parts part) needed y need (inl (fed y p i (ap is_passing (w.output_role x y p i e)) (w.output_place x y p i e)))
-read_covered_by n order parts part needed c q j x (Read y r i) w need ev at fed e =
-    listed_among order (Needs n parts part) needed y need (inl (fed y 0 _ (ap is_passing (w.read_role x y r i e)) (w.read_place x y r i e).1))
-read_covered_by n order parts part needed c q j x (Register y i) w need ev at fed e = elim (w.register_role x y i e) [
-  | inl plain ↦ listed_among order (Needs n parts part) needed y need (inr (record {
+read_covered_by : (n : Netlist) (parts part : ℕ) (used : List ℕ) (c q j x : ℕ) (d : Driver) → IsWired n → AreUsed n parts part used → Evaluates n parts part c → operand_at (cell_at n c) q j ≡ Bit x
+    → ((e o f : ℕ) → is_passing (role_at n e) ≡ true → output_at (cell_at n e) o f ≡ Some x → Evaluates n parts part e) → driver_of n x ≡ d → covers_by used d ≡ true
+read_covered_by n parts part used c q j x (Input p i) w uses ev at fed e = refl
+read_covered_by n parts part used c q j x Clock w uses ev at fed e = refl
+read_covered_by n parts part used c q j x (Output y p i) w uses ev at fed e =
+    uses.each y (inl (fed y p i (ap is_passing (w.output_role x y p i e)) (w.output_place x y p i e)))
+read_covered_by n parts part used c q j x (Read y r i) w uses ev at fed e =
+    uses.each y (inl (fed y 0 _ (ap is_passing (w.read_role x y r i e)) (w.read_place x y r i e).1))
+read_covered_by n parts part used c q j x (Register y i) w uses ev at fed e = elim (w.register_role x y i e) [
+  | inl plain ↦ uses.each y (inr (record {
     reader = c;
     shows = record { plain = plain; output = 0; from = i; operand = q; to = j; net = x; is_output = w.register_place x y i e; is_operand = at };
     evaluates = ev;
   }))
-  | inr reset ↦ listed_among order (Needs n parts part) needed y need (inl (fed y 0 i (ap is_passing reset) (w.register_place x y i e)))
+  | inr reset ↦ uses.each y (inl (fed y 0 i (ap is_passing reset) (w.register_place x y i e)))
 ]
 
-pub part_closed : (n : Netlist) (order : List ℕ) (parts part : ℕ) (needed : List ℕ) → IsWired n → Lists order (Needs n parts part) needed → AreClosed n (covers n needed)
+pub part_closed : (n : Netlist) (parts part : ℕ) (used : List ℕ) → IsWired n → AreUsed n parts part used → AreClosed n (covers n used)
 unfolding AreClosed
-part_closed n order parts part needed w need = λ b c q j x k is m at.
-    let ev = needs_evaluates n parts part c (counting_passes (role_at n c) (cell_at n c) q m) (among_listed order (Needs n parts part) needed c need (driver_among n needed b c k is)) in
-    read_covered_by n order parts part needed c q j x (driver_of n x) w need ev at
+part_closed n parts part used w uses = λ b c q j x k is m at.
+    let ev = uses_evaluates n parts part c (counting_passes (role_at n c) (cell_at n c) q m) (uses.only c (driver_among n used b c k is)) in
+    read_covered_by n parts part used c q j x (driver_of n x) w uses ev at
     (λ e o f p out. feeds_on n parts part e c (record { passing = p; output = o; from = f; operand = q; to = j; net = x; is_output = out; is_operand = at; operand_counts = m }) ev) refl
   where
     counting_passes : (r : Role) (c : Cell) (q : ℕ) → counts r c q ≡ true → is_passing r ≡ true
@@ -135,9 +185,9 @@ part_closed n order parts part needed w need = λ b c q j x k is m at.
     counting_passes CarriedOver c q h = absurd (cc)
 
 -- all that an owned cell reads is covered
-pub owned_reads : (n : Netlist) (order : List ℕ) (parts part : ℕ) (needed : List ℕ) (c q j x : ℕ) → IsWired n → Lists order (Needs n parts part) needed → OwnsCell n parts part c → operand_at (cell_at n c) q j ≡ Bit x → covers n needed x ≡ true
-owned_reads n order parts part needed c q j x w need owns at =
-    read_covered_by n order parts part needed c q j x (driver_of n x) w need (inl owns) at
+pub owned_reads : (n : Netlist) (parts part : ℕ) (used : List ℕ) (c q j x : ℕ) → IsWired n → AreUsed n parts part used → OwnsCell n parts part c → operand_at (cell_at n c) q j ≡ Bit x → covers n used x ≡ true
+owned_reads n parts part used c q j x w uses owns at =
+    read_covered_by n parts part used c q j x (driver_of n x) w uses (inl owns) at
     (λ e o f p out. inr (record { last = e; fed = c; leads = inl refl; drives = record { passing = p; output = o; from = f; operand = q; to = j; net = x; is_output = out; is_operand = at }; owns = owns })) refl
 
 -- ---- what a part owns is covered
@@ -145,24 +195,24 @@ owned_reads n order parts part needed c q j x w need owns at =
 some_same : (a b : ℕ) → Some a ≡ Some b → a ≡ b
 some_same a b e = cc
 
-owned_cell : (n : Netlist) (order : List ℕ) (parts part : ℕ) (needed : List ℕ) (c : ℕ) → Lists order (Needs n parts part) needed → (role_at n c ≡ CarriedOver → ⊥) → Some (owner (length n.cells) parts c) ≡ Some part → is_among needed c ≡ true
-owned_cell n order parts part needed c need real e = listed_among order (Needs n parts part) needed c need (inl (inl (role_inside n c real, some_same _ _ e)))
+owned_cell : (n : Netlist) (parts part : ℕ) (used : List ℕ) (c : ℕ) → AreUsed n parts part used → (role_at n c ≡ CarriedOver → ⊥) → Some (owner (length n.cells) parts c) ≡ Some part → is_among used c ≡ true
+owned_cell n parts part used c uses real e = uses.each c (inl (inl (role_inside n c real, some_same _ _ e)))
 
-owned_by : (n : Netlist) (order : List ℕ) (parts part : ℕ) (needed : List ℕ) (b : ℕ) (d : Driver) → IsWired n → Lists order (Needs n parts part) needed → driver_of n b ≡ d → driver_owner (length n.cells) parts d ≡ Some part → covers_by needed d ≡ true
-owned_by n order parts part needed b (Input p i) w need e h = refl
-owned_by n order parts part needed b Clock w need e h = refl
-owned_by n order parts part needed b (Output c p i) w need e h = owned_cell n order parts part needed c need (λ f. absurd (let z : Combinational ≡ CarriedOver = sym (w.output_role b c p i e) ∙ f in cc)) h
-owned_by n order parts part needed b (Read c r i) w need e h = owned_cell n order parts part needed c need (λ f. absurd (let z : MemoryBlock ≡ CarriedOver = sym (w.read_role b c r i e) ∙ f in cc)) h
-owned_by n order parts part needed b (Register c i) w need e h = owned_cell n order parts part needed c need (λ f. elim (w.register_role b c i e) [
+owned_by : (n : Netlist) (parts part : ℕ) (used : List ℕ) (b : ℕ) (d : Driver) → IsWired n → AreUsed n parts part used → driver_of n b ≡ d → driver_owner (length n.cells) parts d ≡ Some part → covers_by used d ≡ true
+owned_by n parts part used b (Input p i) w uses e h = refl
+owned_by n parts part used b Clock w uses e h = refl
+owned_by n parts part used b (Output c p i) w uses e h = owned_cell n parts part used c uses (λ f. absurd (let z : Combinational ≡ CarriedOver = sym (w.output_role b c p i e) ∙ f in cc)) h
+owned_by n parts part used b (Read c r i) w uses e h = owned_cell n parts part used c uses (λ f. absurd (let z : MemoryBlock ≡ CarriedOver = sym (w.read_role b c r i e) ∙ f in cc)) h
+owned_by n parts part used b (Register c i) w uses e h = owned_cell n parts part used c uses (λ f. elim (w.register_role b c i e) [
   | inl p ↦ absurd (let z : PlainRegister ≡ CarriedOver = sym p ∙ f in cc)
   | inr r ↦ absurd (let z : ResetRegister ≡ CarriedOver = sym r ∙ f in cc)
 ]) h
 
-pub owned_covered : (n : Netlist) (order : List ℕ) (parts part : ℕ) (needed : List ℕ) (b : ℕ) → IsWired n → Lists order (Needs n parts part) needed → OwnsNet n parts part b → covers n needed b ≡ true
-owned_covered n order parts part needed b w need owns = owned_by n order parts part needed b (driver_of n b) w need refl owns
+pub owned_covered : (n : Netlist) (parts part : ℕ) (used : List ℕ) (b : ℕ) → IsWired n → AreUsed n parts part used → OwnsNet n parts part b → covers n used b ≡ true
+owned_covered n parts part used b w uses owns = owned_by n parts part used b (driver_of n b) w uses refl owns
 
-pub clock_covered : (n : Netlist) (needed : List ℕ) (b : ℕ) → driver_of n b ≡ Clock → covers n needed b ≡ true
-clock_covered n needed b e = ap (covers_by needed) e
+pub clock_covered : (n : Netlist) (used : List ℕ) (b : ℕ) → driver_of n b ≡ Clock → covers n used b ≡ true
+clock_covered n used b e = ap (covers_by used) e
 
-pub owned_among : (n : Netlist) (order : List ℕ) (parts part : ℕ) (needed : List ℕ) (c : ℕ) → Lists order (Needs n parts part) needed → OwnsCell n parts part c → is_among needed c ≡ true
-owned_among n order parts part needed c need owns = listed_among order (Needs n parts part) needed c need (inl (inl owns))
+pub owned_among : (n : Netlist) (parts part : ℕ) (used : List ℕ) (c : ℕ) → AreUsed n parts part used → OwnsCell n parts part c → is_among used c ≡ true
+owned_among n parts part used c uses owns = uses.each c (inl (inl owns))

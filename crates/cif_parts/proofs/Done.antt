@@ -28,12 +28,12 @@ use Rattle.cif_seq.proofs.StateWidths.{is_stored}
 use Rattle.cif_shown.specs.Shown.{CoverBits, Given, KeepsAt, MayBegin, Rests, Shows}
 use Rattle.cif_shown.proofs.Begun.{shows_alike}
 use Rattle.cif_shown.proofs.Unique.{taints_covered, values_covered}
-use Rattle.cif_pieces.specs.Parts.{EvaluatesInTurn, Needs}
+use Rattle.cif_pieces.specs.Parts.{EvaluatesInTurn}
 use Rattle.cif_pieces.specs.Pieces.{HoldsPiece, RestsIn, piece_of}
 use Rattle.cif_pieces.specs.Plans.{IsPlanOf, Lists, PlanOf}
 use Rattle.cif_pieces.specs.declared.piece.OwnedBits.{OwnedBits}
-use Rattle.cif_parts.specs.Running.{AreIn, BeginsPart, HavePlaces, covers, given_in, is_among}
-use Rattle.cif_parts.proofs.Covered.{among_found, clock_covered, driver_among, listed_among, owned_among, owned_covered, owned_reads, part_closed, part_covers}
+use Rattle.cif_parts.specs.Running.{AreIn, BeginsPart, HavePlaces, covers, given_in, is_among, used_cells}
+use Rattle.cif_parts.proofs.Covered.{AreUsed, among_found, clock_covered, driver_among, owned_among, owned_covered, owned_reads, part_closed, part_covers, plan_uses}
 
 -- ---- the cells that a part evaluates in turn have their words
 
@@ -54,13 +54,13 @@ stored_here n s k c stored l h e =
       taint_width = ap length e.taint ∙ all.taint_width c l;
     }
 
-pub part_stored : (c : CaseOf) (k : ℕ) (p : PlanOf) (part : ℕ) (passing : List ℕ) (stored : StoredWords) (inputs : Inputs) (bits : NetBits) → IsPlanOf c p → part < p.parts → passing ≡ get_or p.passing part [] → BeginsPart c k (get_or p.needed part []) stored inputs bits
+pub part_stored : (c : CaseOf) (k : ℕ) (p : PlanOf) (part : ℕ) (passing : List ℕ) (stored : StoredWords) (inputs : Inputs) (bits : NetBits) → IsPlanOf c p → part < p.parts → passing ≡ get_or p.passing part [] → BeginsPart c k (used_cells p part) stored inputs bits
     → AreStored (net_of c) stored.values.items stored.taints.items stored.flags.items passing
 part_stored c k p part passing stored inputs bits h l e begun = λ i inside.
     let turn = subst (λ (xs : List ℕ). Lists c.order (EvaluatesInTurn (net_of c) p.parts part) xs) (sym e) (h.passing part l) in
     let here = turn.only i inside in
     stored_here (net_of c) c.stimulus k (get_or passing i 0) stored (in_range (net_of c) (get_or passing i 0) here.1) begun.places
-    (words_at (net_of c) c.stimulus k (get_or p.needed part []) (get_or passing i 0) stored begun.words (listed_among c.order (Needs (net_of c) p.parts part) (get_or p.needed part []) (get_or passing i 0) (h.needed part l) (Rattle.std.proofs.Common.inl here.0)))
+    (words_at (net_of c) c.stimulus k (used_cells p part) (get_or passing i 0) stored begun.words ((plan_uses c p part h l).each (get_or passing i 0) (Rattle.std.proofs.Common.inl here.0)))
 
 -- ---- covered bits are right
 
@@ -68,22 +68,22 @@ keeps_back : (before after : Given) (c : ℕ) → KeepsAt before after c → Kee
 keeps_back before after c h = record { value = sym h.value; taint = sym h.taint; flag = sym h.flag }
 
 -- where they show what is given by the part's own words, they show what is given in the cycle
-shows_in : (c : CaseOf) (k : ℕ) (needed : List ℕ) (stored : StoredWords) (inputs : Inputs) (values taints : List Bool) (b : ℕ) → AreIn (net_of c) c.stimulus k needed (length needed) stored → StandsAt (net_of c) c.stimulus k inputs → covers (net_of c) needed b ≡ true → Shows (net_of c) (given_at c stored inputs) values taints b
+shows_in : (c : CaseOf) (k : ℕ) (used : List ℕ) (stored : StoredWords) (inputs : Inputs) (values taints : List Bool) (b : ℕ) → AreIn (net_of c) c.stimulus k used (length used) stored → StandsAt (net_of c) c.stimulus k inputs → covers (net_of c) used b ≡ true → Shows (net_of c) (given_at c stored inputs) values taints b
     → Shows (net_of c) (given_in (net_of c) c.stimulus k) values taints b
-shows_in c k needed stored inputs values taints b words at k' h =
+shows_in c k used stored inputs values taints b words at k' h =
     shows_alike (net_of c) (given_at c stored inputs) (given_in (net_of c) c.stimulus k) b values taints (λ x. refl)
     (λ p i. ap (λ j. input_value (net_of c) c.stimulus j p i) at.cycle) (λ p i. ap (λ j. input_taint (net_of c) c.stimulus j p i) at.cycle)
-    (λ x is. let e = words_at (net_of c) c.stimulus k needed x stored words (driver_among (net_of c) needed b x k' is) in record { value = sym e.value; taint = sym e.taint; flag = sym e.flag }) h
+    (λ x is. let e = words_at (net_of c) c.stimulus k used x stored words (driver_among (net_of c) used b x k' is) in record { value = sym e.value; taint = sym e.taint; flag = sym e.flag }) h
 
-pub right_value : (c : CaseOf) (k parts part : ℕ) (needed : List ℕ) (values taints : List Bool) (b : ℕ) → IsWired (net_of c) → IsLevelled (net_of c) c.order → Lists c.order (Needs (net_of c) parts part) needed
-    → ((x : ℕ) → covers (net_of c) needed x ≡ true → Shows (net_of c) (given_in (net_of c) c.stimulus k) values taints x) → covers (net_of c) needed b ≡ true → bit values b ≡ value (net_of c) c.stimulus k b
-right_value c k parts part needed values taints b w o need h e =
-    values_covered (net_of c) c.order (covers (net_of c) needed) (given_in (net_of c) c.stimulus k) values taints w o (part_closed (net_of c) c.order parts part needed w need) h b e
+pub right_value : (c : CaseOf) (k parts part : ℕ) (used : List ℕ) (values taints : List Bool) (b : ℕ) → IsWired (net_of c) → IsLevelled (net_of c) c.order → AreUsed (net_of c) parts part used
+    → ((x : ℕ) → covers (net_of c) used x ≡ true → Shows (net_of c) (given_in (net_of c) c.stimulus k) values taints x) → covers (net_of c) used b ≡ true → bit values b ≡ value (net_of c) c.stimulus k b
+right_value c k parts part used values taints b w o uses h e =
+    values_covered (net_of c) c.order (covers (net_of c) used) (given_in (net_of c) c.stimulus k) values taints w o (part_closed (net_of c) parts part used w uses) h b e
 
-pub right_taint : (c : CaseOf) (k parts part : ℕ) (needed : List ℕ) (values taints : List Bool) (b : ℕ) → IsWired (net_of c) → IsLevelled (net_of c) c.order → Lists c.order (Needs (net_of c) parts part) needed
-    → ((x : ℕ) → covers (net_of c) needed x ≡ true → Shows (net_of c) (given_in (net_of c) c.stimulus k) values taints x) → covers (net_of c) needed b ≡ true → bit taints b ≡ taint (net_of c) c.stimulus k b
-right_taint c k parts part needed values taints b w o need h e =
-    taints_covered (net_of c) c.order (covers (net_of c) needed) (given_in (net_of c) c.stimulus k) values taints w o (part_closed (net_of c) c.order parts part needed w need) h b e
+pub right_taint : (c : CaseOf) (k parts part : ℕ) (used : List ℕ) (values taints : List Bool) (b : ℕ) → IsWired (net_of c) → IsLevelled (net_of c) c.order → AreUsed (net_of c) parts part used
+    → ((x : ℕ) → covers (net_of c) used x ≡ true → Shows (net_of c) (given_in (net_of c) c.stimulus k) values taints x) → covers (net_of c) used b ≡ true → bit taints b ≡ taint (net_of c) c.stimulus k b
+right_taint c k parts part used values taints b w o uses h e =
+    taints_covered (net_of c) c.order (covers (net_of c) used) (given_in (net_of c) c.stimulus k) values taints w o (part_closed (net_of c) parts part used w uses) h b e
 
 -- ---- a cell rests by what it reads
 
@@ -127,33 +127,33 @@ rests_in n s k c stored values taints ev et e h =
 -- ---- a piece
 
 pub part_done : (c : CaseOf) (k : ℕ) (p : PlanOf) (part : ℕ) (passing : List ℕ) (begun : NetBits) (bits : OwnedBits) → IsWired (net_of c) → IsLevelled (net_of c) c.order → IsPlanOf c p → part < p.parts → passing ≡ get_or p.passing part []
-    → BeginsPart c k (get_or p.needed part []) bits.stored bits.inputs begun
+    → BeginsPart c k (used_cells p part) bits.stored bits.inputs begun
     → ((covered : ℕ → Bool) → CoverBits (net_of c) c.order passing covered → MayBegin covered (net_of c) (given_at c bits.stored bits.inputs) passing begun.marks.items begun.values.items begun.taints.items
     → (b : ℕ) → covered b ≡ true → Shows (net_of c) (given_at c bits.stored bits.inputs) bits.values.items bits.taints.items b)
     → Notes (net_of c) begun.values.items begun.taints.items bits.values.items bits.taints.items begun.marks.items bits.due.items
     → length bits.values.items ≡ length (net_of c).drivers → length bits.taints.items ≡ length (net_of c).drivers → length bits.due.items ≡ length (net_of c).cells → HoldsPiece (piece_of c k part p.parts) bits
 part_done c k p part passing begun bits w o plan l e b shown notes sv st sd =
-    let n : Netlist = net_of c in let s : Stimulus = c.stimulus in let needed : List ℕ = get_or p.needed part [] in
-    let need : Lists c.order (Needs n p.parts part) needed = plan.needed part l in
-    let cover : CoverBits n c.order passing (covers n needed) = part_covers n c.order p.parts part passing needed o (subst (λ (xs : List ℕ). Lists c.order (EvaluatesInTurn n p.parts part) xs) (sym e) (plan.passing part l)) need in
-    let shows : (x : ℕ) → covers n needed x ≡ true → Shows n (given_in n s k) bits.values.items bits.taints.items x =
-    λ x h. shows_in c k needed bits.stored bits.inputs bits.values.items bits.taints.items x b.words b.at h (shown (covers n needed) cover (b.begins passing cover) x h) in
-    let values : (x : ℕ) → covers n needed x ≡ true → bit bits.values.items x ≡ value n s k x = λ x h. right_value c k p.parts part needed bits.values.items bits.taints.items x w o need shows h in
-    let taints : (x : ℕ) → covers n needed x ≡ true → bit bits.taints.items x ≡ taint n s k x = λ x h. right_taint c k p.parts part needed bits.values.items bits.taints.items x w o need shows h in
+    let n : Netlist = net_of c in let s : Stimulus = c.stimulus in let used : List ℕ = used_cells p part in
+    let uses : AreUsed n p.parts part used = plan_uses c p part plan l in
+    let cover : CoverBits n c.order passing (covers n used) = part_covers n c.order p.parts part passing used o (subst (λ (xs : List ℕ). Lists c.order (EvaluatesInTurn n p.parts part) xs) (sym e) (plan.passing part l)) uses in
+    let shows : (x : ℕ) → covers n used x ≡ true → Shows n (given_in n s k) bits.values.items bits.taints.items x =
+    λ x h. shows_in c k used bits.stored bits.inputs bits.values.items bits.taints.items x b.words b.at h (shown (covers n used) cover (b.begins passing cover) x h) in
+    let values : (x : ℕ) → covers n used x ≡ true → bit bits.values.items x ≡ value n s k x = λ x h. right_value c k p.parts part used bits.values.items bits.taints.items x w o uses shows h in
+    let taints : (x : ℕ) → covers n used x ≡ true → bit bits.taints.items x ≡ taint n s k x = λ x h. right_taint c k p.parts part used bits.values.items bits.taints.items x w o uses shows h in
     record {
       places = record { values = sv; taints = st; words = b.places.values; word_taints = b.places.taints; flags = b.places.flags; due = sd };
-      nets = λ x owns. (let h = owned_covered n c.order p.parts part needed x w need owns in record { value = values x h; taint = taints x h });
-      clock = λ x is. (let h = clock_covered n needed x is in record { value = values x h; taint = taints x h });
+      nets = λ x owns. (let h = owned_covered n p.parts part used x w uses owns in record { value = values x h; taint = taints x h });
+      clock = λ x is. (let h = clock_covered n used x is in record { value = values x h; taint = taints x h });
       cells = λ x owns. (
-          let among : is_among needed x ≡ true = owned_among n c.order p.parts part needed x need owns in
-          let words : KeepsAt (given_in n s k) (given_of bits.stored) x = words_at n s k needed x bits.stored b.words among in
-          let at = among_found needed x among in
+          let among : is_among used x ≡ true = owned_among n p.parts part used x uses owns in
+          let words : KeepsAt (given_in n s k) (given_of bits.stored) x = words_at n s k used x bits.stored b.words among in
+          let at = among_found used x among in
           record {
             value = words.value;
             taint = words.taint;
             flag = words.flag;
             resting = λ clear. rests_in n s k x bits.stored bits.values.items bits.taints.items
-                (λ q j y r. values y (owned_reads n c.order p.parts part needed x q j y w need owns r)) (λ q j y r. taints y (owned_reads n c.order p.parts part needed x q j y w need owns r)) words
+                (λ q j y r. values y (owned_reads n p.parts part used x q j y w uses owns r)) (λ q j y r. taints y (owned_reads n p.parts part used x q j y w uses owns r)) words
                 (subst (λ (y : ℕ). Rests n (given_of bits.stored) bits.values.items bits.taints.items y) at.2 (b.resting bits.values.items bits.taints.items bits.due.items at.0 notes at.1 (ap (bit bits.due.items) at.2 ∙ clear)));
           });
       at = b.at;
@@ -161,7 +161,7 @@ part_done c k p part passing begun bits w o plan l e b shown notes sv st sd =
 
 -- the same where the calls say another case, and another number of parts
 pub part_done_of : (c seen kept : CaseOf) (k parts : ℕ) (p : PlanOf) (part : ℕ) (passing : List ℕ) (begun : NetBits) (bits : OwnedBits) → seen ≡ c → kept ≡ c → parts ≡ p.parts → IsWired (net_of c) → IsLevelled (net_of c) c.order → IsPlanOf c p → part < p.parts → passing ≡ get_or p.passing part []
-    → BeginsPart c k (get_or p.needed part []) bits.stored bits.inputs begun
+    → BeginsPart c k (used_cells p part) bits.stored bits.inputs begun
     → ((covered : ℕ → Bool) → CoverBits (net_of seen) seen.order passing covered → MayBegin covered (net_of seen) (given_at seen bits.stored bits.inputs) passing begun.marks.items begun.values.items begun.taints.items
     → (b : ℕ) → covered b ≡ true → Shows (net_of seen) (given_at seen bits.stored bits.inputs) bits.values.items bits.taints.items b)
     → Notes (net_of seen) begun.values.items begun.taints.items bits.values.items bits.taints.items begun.marks.items bits.due.items

@@ -1,4 +1,5 @@
--- The marks of the cells that a part evaluates, found backwards along a levelled order, and of those of which it needs what they store.
+-- The marks of the cells that a part evaluates, found backwards along a levelled order, of those that it uses, and of those of which
+-- it needs what they store.
 use Rattle.std.specs.Prelude.{ℕ, ◌+◌, ◌<◌, ◌≤◌, ◌≡◌, ◌⊎◌, Bool, true, false, List, [], ◌∷◌, length, get_or, refl}
 use Rattle.std.proofs.Common.{arith, sym, ap, subst, ◌∙◌, inl, inr}
 use Rattle.std.proofs.lemmas.List.{get_or_past}
@@ -8,9 +9,9 @@ use Rattle.cif_defs.specs.Words.{bit}
 use Rattle.cif_defs.proofs.Orders.{has_place, place_in}
 use Rattle.cif_defs.proofs.WordLaws.{le_or_lt}
 use Rattle.cif_level.proofs.Driving.{HasOneOutput}
-use Rattle.cif_pieces.specs.Parts.{DrivesOperand, Evaluates, Feeds, LeadsTo, Needs, OwnsCell}
+use Rattle.cif_pieces.specs.Parts.{DrivesOperand, Evaluates, Feeds, LeadsTo, Needs, OwnsCell, Uses}
 use Rattle.cif_parts.specs.Closing.{IsClosed}
-use Rattle.cif_parts.specs.Marking.{Adds, AreMarks}
+use Rattle.cif_parts.specs.Marking.{Adds, AreMarks, IsStoring}
 use Rattle.cif_parts.specs.Walks.{IsMet, IsMetFrom}
 use Rattle.cif_parts.specs.declared.walk.Walk.TheVariants.{Operands, Counting, Registers}
 use Rattle.cif_parts.proofs.Meeting.{drives_met, drives_operand_met, met_drives, met_drives_operand, met_shows, shows_met}
@@ -119,7 +120,7 @@ closed_last n order parts part from marks o l h =
       only = h.only;
     }
 
--- ---- the marks of the cells of which a part needs what they store
+-- ---- the marks of the cells that a part uses, and of those of which it needs what they store
 
 marked_inside : (marks : List Bool) (c : ℕ) → bit marks c ≡ true → c < length marks
 marked_inside marks c m = elim (le_or_lt c (length marks)) [
@@ -127,10 +128,10 @@ marked_inside marks c m = elim (le_or_lt c (length marks)) [
   | inr l ↦ absurd (let z : bit marks c ≡ false = get_or_past marks c false l in cc)
 ]
 
-pub needed_marked : (n : Netlist) (parts part : ℕ) (evaluated marks : List Bool) → IsWired n → HasOneOutput n → AreMarks evaluated (length n.cells) (Evaluates n parts part) → Adds evaluated marks (IsMetFrom Registers n evaluated (length n.cells)) → AreMarks marks (length n.cells) (Needs n parts part)
-needed_marked n parts part evaluated marks w o h k = record {
+pub used_marked : (n : Netlist) (parts part : ℕ) (evaluated marks : List Bool) → IsWired n → HasOneOutput n → AreMarks evaluated (length n.cells) (Evaluates n parts part) → Adds evaluated marks (IsMetFrom Registers n evaluated (length n.cells)) → AreMarks marks (length n.cells) (Uses n parts part)
+used_marked n parts part evaluated marks w o h k = record {
   as_many = k.as_many ∙ h.as_many;
-  each = λ c needs. elim needs [
+  each = λ c uses. elim uses [
     | inl e ↦ k.kept c (h.each c e)
     | inr r ↦ k.added c (record {
       from = r.reader;
@@ -143,4 +144,16 @@ needed_marked n parts part evaluated marks w o h k = record {
     | inl x ↦ inl (h.only c x)
     | inr x ↦ inr (record { reader = x.from; shows = met_shows n x.from c w x.met; evaluates = h.only x.from x.is_chosen })
   ];
+}
+
+-- those of them that store something
+pub needed_marked : (n : Netlist) (parts part : ℕ) (used needed : List Bool) → AreMarks used (length n.cells) (Uses n parts part) → AreMarks needed (length n.cells) (λ c. (c < length n.cells) × IsStoring n used c) → AreMarks needed (length n.cells) (Needs n parts part)
+needed_marked n parts part used needed h k = record {
+  as_many = k.as_many;
+  each = λ c needs. (
+      let marked : bit used c ≡ true = h.each c needs.0 in
+      let l : c < length used = marked_inside used c marked in
+      let z : length used ≡ length n.cells = h.as_many in
+      k.each c (omega arith, record { marked = marked; storing = needs.1 }));
+  only = λ c m. (let s = (k.only c m).1 in (h.only c s.marked, s.storing));
 }

@@ -8,6 +8,7 @@ pub mod Slotting
 pub mod Examples
 pub mod Covered
 pub mod Placing
+pub mod StoringNothing
 pub mod Beginning
 pub mod Done
 pub mod Copying

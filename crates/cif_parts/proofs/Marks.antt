@@ -93,26 +93,33 @@ true_test a b t e h = grind (arith, nat_tests)
 split_end : (i end : ℕ) → i < end + 1 → (i < end) ⊎ (i ≡ end)
 split_end i end h = search arith
 
-pub owned_more : (cells parts part i o : ℕ) (t : Bool) (old new : List Bool) → new ≡ old ++ t ∷ [] → o ≡ owner cells parts i → t ≡ (o == part) → AreMarks old i (Owned cells parts part i) → AreMarks new (i + 1) (Owned cells parts part (i + 1))
-owned_more cells parts part i o t old new e at is h = subst (λ (xs : List Bool). AreMarks xs (i + 1) (Owned cells parts part (i + 1))) (sym e) (record {
+-- marks of the first cells, so many, and one more
+pub more_marks : (P : ℕ → Type 0) (i : ℕ) (t : Bool) (old new : List Bool) → new ≡ old ++ t ∷ [] → (t ≡ true → P i) → (P i → t ≡ true) → AreMarks old i (λ c. (c < i) × P c) → AreMarks new (i + 1) (λ c. (c < i + 1) × P c)
+more_marks P i t old new e forth back h = subst (λ (xs : List Bool). AreMarks xs (i + 1) (λ c. (c < i + 1) × P c)) (sym e) (record {
   as_many = (let z : length (old ++ t ∷ []) ≡ length old + 1 = length-append old (t ∷ []) in let y : length old ≡ i = h.as_many in omega arith);
   each = λ c p. elim (split_end c i p.0) [
     | inl l ↦ get_or_append_left old (t ∷ []) false c (let y : length old ≡ i = h.as_many in omega arith) ∙ h.each c (l, p.1)
     | inr s ↦ (let none : c - i ≡ 0 = omega arith in
-        get_or-append_right old (t ∷ []) i c false h.as_many (omega arith) ∙ ap (λ (k : ℕ). bit (t ∷ []) k) none ∙ test_true o part t is (at ∙ ap (owner cells parts) (sym s) ∙ p.1))
+        get_or-append_right old (t ∷ []) i c false h.as_many (omega arith) ∙ ap (λ (k : ℕ). bit (t ∷ []) k) none ∙ back (subst P s p.1))
   ];
   only = λ c b. elim (snoc_bit old t i c h.as_many b) [
     | inl k ↦ (let l : c < i = k.0 in (omega arith, (h.only c k.1).1))
-    | inr k ↦ (let s : c ≡ i = k.0 in (omega arith, ap (owner cells parts) k.0 ∙ sym at ∙ true_test o part t is k.1))
+    | inr k ↦ (let s : c ≡ i = k.0 in (omega arith, subst P (sym s) (forth k.1)))
   ];
 })
 
-pub owned_none : (cells parts part : ℕ) → AreMarks [] 0 (Owned cells parts part 0)
-owned_none cells parts part = record {
+pub no_marks : (P : ℕ → Type 0) → AreMarks [] 0 (λ c. (c < 0) × P c)
+no_marks P = record {
   as_many = refl;
   each = λ c p. absurd (let l : c < 0 = p.0 in omega arith);
   only = λ c b. absurd (cc);
 }
+
+pub owned_more : (cells parts part i o : ℕ) (t : Bool) (old new : List Bool) → new ≡ old ++ t ∷ [] → o ≡ owner cells parts i → t ≡ (o == part) → AreMarks old i (Owned cells parts part i) → AreMarks new (i + 1) (Owned cells parts part (i + 1))
+owned_more cells parts part i o t old new e at is h = more_marks (λ c. owner cells parts c ≡ part) i t old new e (λ x. sym at ∙ true_test o part t is x) (λ y. test_true o part t is (at ∙ y)) h
+
+pub owned_none : (cells parts part : ℕ) → AreMarks [] 0 (Owned cells parts part 0)
+owned_none cells parts part = no_marks (λ c. owner cells parts c ≡ part)
 
 -- each cell is owned by one of the parts
 pub owner_below : (cells parts c : ℕ) → c < cells → 0 < parts → owner cells parts c < parts

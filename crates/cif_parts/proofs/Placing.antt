@@ -1,20 +1,22 @@
 -- What cells store is put in their places, one cell after another.
-use Rattle.std.specs.Prelude.{ℕ, ◌+◌, ◌<◌, ◌≡◌, ◌≢◌, ◌⊎◌, Bool, false, List, [], length, get_or, slice_set}
+use Rattle.std.specs.Prelude.{ℕ, ◌+◌, ◌<◌, ◌≡◌, ◌≢◌, ◌⊎◌, Bool, true, false, List, [], length, get_or, replicate, slice_set}
 use Rattle.std.proofs.Common.{arith, ap, sym, subst, ◌∙◌, inl, inr, get_or-set_same, get_or-set_other}
-use Rattle.std.proofs.lemmas.List.{length-set}
+use Rattle.std.proofs.lemmas.List.{get_or_past, get_or-replicate, length-replicate, length-set}
 use Rattle.std.proofs.lemmas.List.FromFn.{get_or-map-range_with_len}
 use Rattle.cif_defs.specs.Accepted.{netlist_of}
 use Rattle.cif_defs.specs.Words.{Word, bit}
-use Rattle.cif_defs.specs.Netlist.{Netlist}
+use Rattle.cif_defs.specs.Netlist.{Netlist, role_at}
 use Rattle.cif_defs.specs.Run.{state}
 use Rattle.cif_defs.specs.Stimulus.{Stimulus, start_at}
 use Rattle.cif_defs.specs.TaintRun.{taint_state}
 use Rattle.cif_defs.specs.declared.raw_module.Raw.{Raw}
+use Rattle.cif_defs.proofs.WordLaws.{le_or_lt}
 use Rattle.cif_cycle.specs.declared.stored.StoredWords.{StoredWords}
 use Rattle.cif_seq.specs.Cases.{CaseOf, net_of}
 use Rattle.cif_seq.specs.Stored.{given_of}
 use Rattle.cif_shown.specs.Shown.{AreResting, Given, KeepsAt, Rests}
-use Rattle.cif_parts.specs.Running.{AreIn, AreMoved, HavePlaces, IsMoved, IsNext, given_in}
+use Rattle.cif_pieces.specs.Parts.{stores}
+use Rattle.cif_parts.specs.Running.{AreClear, AreIn, AreMoved, HavePlaces, IsMoved, IsNext, given_in}
 
 -- the place of a cell holds a word, its taint and a flag, and the other places what they held
 pub record IsPut (old new : StoredWords) (c : ℕ) (word word_taint : Word) (flag : Bool) : Type 0 where
@@ -46,8 +48,32 @@ still_places n old new c w u f h ev et ef = record {
   flags = ap length ef ∙ length-set old.flags.items c f ∙ h.flags;
 }
 
+-- what stands at places that are all alike
+even_at : {A : Type 0} (n c : ℕ) (x : A) (xs : List A) → xs ≡ replicate n x → get_or xs c x ≡ x
+even_at n c x xs e = ap (λ (ys : List _). get_or ys c x) e ∙ elim (le_or_lt c n) [
+  | inl l ↦ get_or-replicate n c x x l
+  | inr l ↦ get_or_past (replicate n x) c x (let size : length (replicate n x) ≡ n = length-replicate n x in omega arith)
+]
+
+pub clear_bit : (n b : ℕ) (xs : List Bool) → xs ≡ replicate n false → bit xs b ≡ false
+clear_bit n b xs e = even_at n b false xs e
+
+pub clear_places : (n : Netlist) (count : ℕ) (stored : StoredWords) → stored.values.items ≡ replicate count [] → stored.taints.items ≡ replicate count [] → stored.flags.items ≡ replicate count false → AreClear n stored
+clear_places n count stored ev et ef = λ c e. record {
+  value = even_at count c [] stored.values.items ev;
+  taint = even_at count c [] stored.taints.items et;
+  flag = even_at count c false stored.flags.items ef;
+}
+
 same_or_not : (i j : ℕ) → (i ≡ j) ⊎ (i ≢ j)
 same_or_not i j = search arith
+
+-- cells that store nothing have nothing in their places, when another cell's are filled
+pub still_clear : (n : Netlist) (old new : StoredWords) (c : ℕ) (w u : Word) (f : Bool) → IsPut old new c w u f → stores (role_at n c) ≡ true → AreClear n old → AreClear n new
+still_clear n old new c w u f p s h = λ d e.
+    let other = p.others d (λ q. absurd (let z : stores (role_at n d) ≡ true = ap (λ (x : ℕ). stores (role_at n x)) q ∙ s in cc)) in
+    let clear = h d e in
+    record { value = other.value ∙ clear.value; taint = other.taint ∙ clear.taint; flag = other.flag ∙ clear.flag }
 
 keeps_join : (before mid after : Given) (c : ℕ) → KeepsAt before mid c → KeepsAt mid after c → KeepsAt before after c
 keeps_join before mid after c h k = record { value = k.value ∙ h.value; taint = k.taint ∙ h.taint; flag = k.flag ∙ h.flag }
@@ -68,7 +94,7 @@ starts_taint : (n : Netlist) (s : Stimulus) (c : ℕ) → c < length n.cells →
 unfolding taint_state
 starts_taint n s c l = get_or-map-range_with_len (λ x. (start_at n s x).taint) 0 (length n.cells) c c [] l (omega arith)
 
-starts_flag : (n : Netlist) (s : Stimulus) (c : ℕ) → c < length n.cells → get_or (taint_state n s 0).flags c false ≡ false
+pub starts_flag : (n : Netlist) (s : Stimulus) (c : ℕ) → c < length n.cells → get_or (taint_state n s 0).flags c false ≡ false
 unfolding taint_state
 starts_flag n s c l = get_or-map-range_with_len (λ x. false) 0 (length n.cells) c c false l (omega arith)
 

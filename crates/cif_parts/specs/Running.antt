@@ -1,5 +1,5 @@
 -- What a part begins a cycle with, and which net bits are right once it is run.
-use Rattle.std.specs.Prelude.{ℕ, ◌+◌, ◌<◌, ◌≡◌, ◌==◌, Bool, true, false, List, [], length, get_or, Option, Some, None}
+use Rattle.std.specs.Prelude.{ℕ, ◌+◌, ◌<◌, ◌≡◌, ◌==◌, ◌++◌, Bool, true, false, List, [], length, get_or, Option, Some, None}
 use Rattle.std.specs.List.{list_any}
 use Rattle.cif_defs.specs.Words.{Word, bit}
 use Rattle.cif_defs.specs.Netlist.{Netlist, cell_at, driver_of, role_at}
@@ -17,6 +17,8 @@ use Rattle.cif_seq.specs.Inputs.{StandsAt}
 use Rattle.cif_seq.specs.Stored.{given_of}
 use Rattle.cif_seq.specs.declared.settle.NetBits.{NetBits}
 use Rattle.cif_shown.specs.Shown.{CoverBits, Follows, Given, KeepsAt, MayBegin, Rests}
+use Rattle.cif_pieces.specs.Parts.{stores}
+use Rattle.cif_pieces.specs.Plans.{PlanOf}
 
 -- the cycle after that of a frame; 0 where there is none
 abbrev pub cycle_after : Option FrameOf → ℕ
@@ -46,15 +48,30 @@ covers n cells b = covers_by cells (driver_of n b)
 abbrev pub given_in : Netlist → Stimulus → ℕ → Given
 given_in n s k = record { stored = state n s k; state = taint_state n s k; input = input_value n s k; taint_input = input_taint n s k; released = is_released s.lines }
 
--- a list has cells of the netlist
-abbrev pub AreCells : Netlist → List ℕ → Type 0
-AreCells n cells = (i : ℕ) → i < length cells → get_or cells i 0 < length n.cells
+-- a list has cells of the netlist, each of which stores something
+pub record AreStoring (n : Netlist) (cells : List ℕ) : Type 0 where
+  pub inside : (i : ℕ) → i < length cells → get_or cells i 0 < length n.cells
+  pub storing : (i : ℕ) → i < length cells → stores (role_at n (get_or cells i 0)) ≡ true
+
+-- the cells that a part uses, by a plan: those that it evaluates, and those of which it needs what they store
+abbrev pub used_cells : PlanOf → ℕ → List ℕ
+used_cells p part = get_or p.evaluated part [] ++ get_or p.needed part []
 
 -- tables of stored words have a place for each cell
 pub record HavePlaces (n : Netlist) (stored : StoredWords) : Type 0 where
   pub values : length stored.values.items ≡ length n.cells
   pub taints : length stored.taints.items ≡ length n.cells
   pub flags : length stored.flags.items ≡ length n.cells
+
+-- a cell has nothing in its places
+pub record IsClear (stored : StoredWords) (c : ℕ) : Type 0 where
+  pub value : get_or stored.values.items c [] ≡ []
+  pub taint : get_or stored.taints.items c [] ≡ []
+  pub flag : get_or stored.flags.items c false ≡ false
+
+-- so have all cells that store nothing
+abbrev pub AreClear : Netlist → StoredWords → Type 0
+AreClear n stored = (c : ℕ) → stores (role_at n c) ≡ false → IsClear stored c
 
 -- the first cells of a list, so many, store what they do in a cycle
 abbrev pub AreIn : Netlist → Stimulus → ℕ → List ℕ → ℕ → StoredWords → Type 0
@@ -81,16 +98,16 @@ AreMoved n before after values taints marks cells end = (i : ℕ) → i < end �
 
 -- ---- what a part begins with
 
--- by the cells of which it needs what they store: these store what they do in the cycle, the inputs are those of the cycle, the
--- bits that they cover may begin it, and whatever then changes, with each reader of it marked, those that aren't marked rest
-pub record BeginsPart (c : CaseOf) (k : ℕ) (needed : List ℕ) (stored : StoredWords) (inputs : Inputs) (bits : NetBits) : Type 0 where
+-- by the cells that it uses: these store what they do in the cycle, the inputs are those of the cycle, the bits that they cover
+-- may begin it, and whatever then changes, with each reader of it marked, those that aren't marked rest
+pub record BeginsPart (c : CaseOf) (k : ℕ) (used : List ℕ) (stored : StoredWords) (inputs : Inputs) (bits : NetBits) : Type 0 where
   pub places : HavePlaces (net_of c) stored
-  pub words : AreIn (net_of c) c.stimulus k needed (length needed) stored
+  pub words : AreIn (net_of c) c.stimulus k used (length used) stored
   pub at : StandsAt (net_of c) c.stimulus k inputs
   pub as_many_values : length bits.values.items ≡ length (net_of c).drivers
   pub as_many_taints : length bits.taints.items ≡ length (net_of c).drivers
   pub as_many_marks : length bits.marks.items ≡ length (net_of c).cells
-  pub begins : (cells : List ℕ) → CoverBits (net_of c) c.order cells (covers (net_of c) needed)
-      → MayBegin (covers (net_of c) needed) (net_of c) (given_at c stored inputs) cells bits.marks.items bits.values.items bits.taints.items
+  pub begins : (cells : List ℕ) → CoverBits (net_of c) c.order cells (covers (net_of c) used)
+      → MayBegin (covers (net_of c) used) (net_of c) (given_at c stored inputs) cells bits.marks.items bits.values.items bits.taints.items
   pub resting : (values taints marks : List Bool) (i : ℕ) → Notes (net_of c) bits.values.items bits.taints.items values taints bits.marks.items marks
-      → i < length needed → bit marks (get_or needed i 0) ≡ false → Rests (net_of c) (given_of stored) values taints (get_or needed i 0)
+      → i < length used → bit marks (get_or used i 0) ≡ false → Rests (net_of c) (given_of stored) values taints (get_or used i 0)

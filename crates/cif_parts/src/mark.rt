@@ -1,13 +1,16 @@
 // The marks of the cells that a part owns, of those that it evaluates, and of those of which it needs what they store.
-ghost use Rattle.std.specs.Prelude.{◌≡◌, ℕ, ◌<◌, ◌≤◌, length, IfOk};
+ghost use Rattle.std.specs.Prelude.{◌≡◌, ℕ, ◌<◌, ◌≤◌, true, length, IfOk};
 ghost use Rattle.cif_defs.specs.Accepted.{netlist_of};
 ghost use Rattle.cif_defs.specs.Loop.{IsLevelled};
-ghost use Rattle.cif_pieces.specs.Parts.{Evaluates, Needs, OwnsCell, owner as owner_of};
+ghost use Rattle.cif_defs.specs.Netlist.{role_at};
+ghost use Rattle.cif_defs.specs.Words.{bit};
+ghost use Rattle.cif_pieces.specs.Parts.{Evaluates, Needs, OwnsCell, Uses, owner as owner_of, stores as stores_of};
 ghost use Rattle.cif_parts.specs.Closing.{IsClosed};
-ghost use Rattle.cif_parts.specs.Marking.{AreMarks};
+ghost use Rattle.cif_parts.specs.Marking.{AreMarks, IsStoring};
 
-use crate::walk::Walk;
-use cif_cells::Netlist;
+use crate::walk::{Walk, cell_of};
+use cif_cells::table::role;
+use cif_cells::{Netlist, Role};
 use cif_cycle::bit_of;
 use std::alloc::{AllocError, Global};
 
@@ -95,15 +98,46 @@ pub(crate) fn evaluated_marks(
 }
 
 /// Marks besides the cells that a part evaluates the registers that these read.
-fn mark_needed(netlist: &Netlist, evaluated: &[bool], marks: &mut [bool])
+fn mark_used(netlist: &Netlist, evaluated: &[bool], marks: &mut [bool])
     requires as_many { length evaluated.now ≡ length (netlist_of netlist.now).cells }
     requires same { marks.old ≡ evaluated.now }
     ensures { (parts part : ℕ)
         → AreMarks evaluated.now (length (netlist_of netlist.now).cells) (Evaluates (netlist_of netlist.now) parts part)
-        → AreMarks marks.new (length (netlist_of netlist.now).cells) (Needs (netlist_of netlist.now) parts part) }
+        → AreMarks marks.new (length (netlist_of netlist.now).cells) (Uses (netlist_of netlist.now) parts part) }
 {
     let _accepted = netlist.cells();
     Walk::Registers.mark_met_from_all(netlist, evaluated, marks);
+}
+
+/// Whether it is the role of a register or of a memory, which store something.
+fn stores(role: Role) -> bool
+    ensures { result ≡ stores_of role }
+{
+    role.is_register() || role.is_memory()
+}
+
+/// Whether a cell is marked, and stores something.
+fn is_storing(netlist: &Netlist, marks: &[bool], number: u32) -> bool
+    requires { number < length (netlist_of netlist.now).cells }
+    ensures marked { result ≡ true → bit marks.now number ≡ true }
+    ensures storing { result ≡ true → stores_of (role_at (netlist_of netlist.now) number) ≡ true }
+    ensures each { IsStoring (netlist_of netlist.now) marks.now number → result ≡ true }
+{
+    let kind = cell_of(netlist, number).kind();
+    bit_of(marks, number as usize) && stores(role(kind))
+}
+
+/// For each cell whether it is marked, and stores something.
+fn storing_marks(alloc: Global, netlist: &Netlist, marks: &[bool]) -> Result<Vec<bool>, AllocError>
+    ensures { IfOk result (λ m. AreMarks m.items (length (netlist_of netlist.now).cells)
+        (λ c. (c < length (netlist_of netlist.now).cells) × IsStoring (netlist_of netlist.now) marks.now c)) }
+{
+    let count = netlist.cells().len() as u32;
+    let mut storing = Vec::with_capacity(alloc, count as usize)?;
+    for number in 0..count {
+        storing.push(is_storing(netlist, marks, number))?;
+    }
+    Ok(storing)
 }
 
 /// For each cell whether a part needs what it stores, from the marks of those that it evaluates.
@@ -118,6 +152,7 @@ pub(crate) fn needed_marks(
         → AreMarks m.items (length (netlist_of netlist.now).cells) (Needs (netlist_of netlist.now) parts part)) }
 {
     let mut marks = Vec::from_slice(alloc, evaluated)?;
-    mark_needed(netlist, evaluated, &mut marks);
-    Ok(marks)
+    mark_used(netlist, evaluated, &mut marks);
+    let storing = storing_marks(alloc, netlist, &marks)?;
+    Ok(storing)
 }

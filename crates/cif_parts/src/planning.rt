@@ -75,9 +75,9 @@ fn part_cells(alloc: Global, case: &Case, parts: u32, part: u32) -> Result<PartC
 }
 
 /// The plan of a case for 1 to 64 parts: cell number `i` of `n` cells is owned by part `i * parts / n`, rounded down, and
-/// each part evaluates the cells that it owns and those from which a path leads to an operand of one of them; beside these
-/// it needs what the registers store that they read. For each part it passes each cell a few times, and the operand bits
-/// of those that the part evaluates up to three times.
+/// each part evaluates the cells that it owns and those from which a path leads to an operand of one of them; it needs what
+/// the registers and memories among them store, and the registers that they read. For each part it passes each cell a few
+/// times, and the operand bits of those that the part evaluates up to three times.
 pub fn plan(alloc: Global, case: &Case, parts: u32) -> Result<Plan, NoMemory>
     requires some { 1 ≤ parts }
     requires few { parts ≤ 64 }

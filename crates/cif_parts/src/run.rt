@@ -7,7 +7,7 @@ ghost use Rattle.cif_seq.specs.Stored.{IsStored, given_of};
 ghost use Rattle.cif_shown.specs.Shown.{AreResting, Rests};
 ghost use Rattle.cif_pieces.specs.Pieces.{piece_of};
 ghost use Rattle.cif_pieces.specs.Plans.{IsPlanOf};
-ghost use Rattle.cif_parts.specs.Running.{AreCells, AreIn, AreMoved, BeginsPart, HavePlaces, IsNext, cycle_after};
+ghost use Rattle.cif_parts.specs.Running.{AreClear, AreIn, AreMoved, AreStoring, BeginsPart, HavePlaces, IsNext, cycle_after, used_cells};
 
 use cif_bits::NoMemory;
 use cif_cells::Netlist;
@@ -26,18 +26,19 @@ use std::sync::Arc;
 
 /// Words of no bits, so many.
 fn empty_words(alloc: Global, count: usize) -> Result<Vec<StateWord>, AllocError>
-    ensures { IfOk result (λ words. length words.items ≡ count) }
+    ensures { IfOk result (λ words. words.items ≡ replicate count []) }
 {
     let mut words = Vec::with_capacity(alloc, count)?;
     for _step in 0..count {
-        words.push(StateWord::of(Vec::new(alloc)))?;
+        words.push_reserved(StateWord::of(Vec::new(alloc)));
     }
     Ok(words)
 }
 
 /// A place for what each cell stores, with nothing in it.
 fn empty_places(alloc: Global, netlist: &Netlist) -> Result<StoredWords, AllocError>
-    ensures { IfOk result (HavePlaces (netlist_of netlist.now)) }
+    ensures places { IfOk result (HavePlaces (netlist_of netlist.now)) }
+    ensures clear { IfOk result (AreClear (netlist_of netlist.now)) }
 {
     let count = netlist.cells().len();
     Ok(StoredWords {
@@ -62,10 +63,11 @@ fn put(stored: &mut StoredWords, number: u32, state: CellState)
     stored.flags[place] = state.flag;
 }
 
-/// What cells start with, each in its place.
+/// What registers and memories start with, each in its place; the places of other cells are empty.
 fn first_words(alloc: Global, case: &Case, needed: &[u32]) -> Result<StoredWords, NoMemory>
-    requires { AreCells (net_of case.now) needed.now }
+    requires { AreStoring (net_of case.now) needed.now }
     ensures places { IfOk result (HavePlaces (net_of case.now)) }
+    ensures clear { IfOk result (AreClear (net_of case.now)) }
     ensures words { IfOk result
         (AreIn (net_of case.now) case.now.stimulus 0 needed.now (length needed.now)) }
 {
@@ -132,20 +134,21 @@ struct MarkedWords {
     marks: Vec<bool>,
 }
 
-/// What cells store after the cycle of a frame, each in its place. Those are marked that may store something else than in
-/// that cycle.
+/// What registers and memories store after the cycle of a frame, each in its place; the places of other cells are empty.
+/// Those are marked that may store something else than in that cycle.
 fn next_words(
     alloc: Global,
     netlist: &Netlist,
     needed: &[u32],
     held: Held<'_>,
 ) -> Result<MarkedWords, NoMemory>
-    requires cells { AreCells (netlist_of netlist.now) needed.now }
+    requires cells { AreStoring (netlist_of netlist.now) needed.now }
     requires stored { IsStored (netlist_of netlist.now) held.stored.now.values.items
         held.stored.now.taints.items held.stored.now.flags.items }
     requires resting { AreResting (netlist_of netlist.now) (given_of held.stored.now)
         held.values.now held.taints.now held.due.now }
     ensures places { IfOk result (λ words. HavePlaces (netlist_of netlist.now) words.stored) }
+    ensures clear { IfOk result (λ words. AreClear (netlist_of netlist.now) words.stored) }
     ensures marks { IfOk result (λ words. length words.marks.items ≡ length (netlist_of netlist.now).cells) }
     ensures moved { IfOk result (λ words. AreMoved (netlist_of netlist.now) (given_of held.entry.stored.now)
         (given_of words.stored) held.entry.values.now held.entry.taints.now words.marks.items needed.now (length needed.now)) }
@@ -187,13 +190,15 @@ fn clear_bits(alloc: Global, netlist: &Netlist) -> Result<NetBits, AllocError>
 }
 
 /// What a part begins cycle 0 with: net bits that are all 0 and untainted, and all cells marked.
-fn first_begun(alloc: Global, case: &Case, needed: &[u32]) -> Result<Begun, NoMemory>
-    requires { AreCells (net_of case.now) needed.now }
-    ensures { IfOk result (λ begun. BeginsPart case.now 0 needed.now begun.stored begun.inputs begun.bits) }
+fn first_begun(alloc: Global, case: &Case, plan: &Plan, part: u32) -> Result<Begun, NoMemory>
+    requires plan { IsPlanOf case.now plan.now }
+    requires part { part < plan.now.parts }
+    ensures { IfOk result (λ begun. BeginsPart case.now 0 (used_cells plan.now part)
+        begun.stored begun.inputs begun.bits) }
 {
     let _levels = case.levels();
     Ok(Begun {
-        stored: first_words(alloc, case, needed)?,
+        stored: first_words(alloc, case, plan.needed(part))?,
         inputs: first_inputs(alloc, case)?,
         bits: clear_bits(alloc, case.netlist())?,
     })
@@ -201,16 +206,24 @@ fn first_begun(alloc: Global, case: &Case, needed: &[u32]) -> Result<Begun, NoMe
 
 /// What a part begins the cycle after a frame with: that frame's net bits, and the cells marked that may store something
 /// else.
-fn next_begun(alloc: Global, case: &Case, needed: &[u32], frame: &Frame) -> Result<Begun, NoMemory>
-    requires cells { AreCells (net_of case.now) needed.now }
+fn next_begun(
+    alloc: Global,
+    case: &Case,
+    plan: &Plan,
+    part: u32,
+    frame: &Frame,
+) -> Result<Begun, NoMemory>
+    requires plan { IsPlanOf case.now plan.now }
+    requires part { part < plan.now.parts }
     requires same { frame.now.case ≡ case.now }
     requires next { frame.now.cycle + 1 < case.now.stimulus.cycles }
-    ensures { IfOk result (λ begun. BeginsPart case.now (frame.now.cycle + 1) needed.now
+    ensures { IfOk result (λ begun. BeginsPart case.now (frame.now.cycle + 1) (used_cells plan.now part)
         begun.stored begun.inputs begun.bits) }
 {
     let _levels = case.levels();
     let _cycles = case.cycles();
     let held = frame.held();
+    let needed = plan.needed(part);
     let MarkedWords { stored, marks } = next_words(alloc, case.netlist(), needed, held)?;
     let inputs = next_inputs(alloc, case, held.inputs)?;
     let bits = NetBits {
@@ -239,7 +252,7 @@ fn part_from(
     requires plan { IsPlanOf case.now.value plan.now }
     requires part { part < plan.now.parts }
     requires cycle { cycle < case.now.value.stimulus.cycles }
-    requires begins { BeginsPart case.now.value cycle (get_or plan.now.needed part [])
+    requires begins { BeginsPart case.now.value cycle (used_cells plan.now part)
         begun.stored begun.inputs begun.bits }
     ensures { IfOk result (λ piece. piece ≡ piece_of case.now.value cycle part plan.now.parts) }
 {
@@ -266,9 +279,12 @@ fn part_from(
     Ok(PartDone::of(case, cycle, part, parts, bits))
 }
 
-/// The piece of a part at the cycle after a frame, or at cycle 0 where there is none. It works out what the cells store
-/// that the part needs, and evaluates of its passing cells those that read a bit that changed; beside that it copies the
-/// frame's net bits.
+/// The piece of a part at the cycle after a frame, or at cycle 0 where there is none. It works out what the registers and
+/// memories store that the part needs, and evaluates of its passing cells those that read a bit that changed.
+///
+/// Its tables have a place for each net bit and for each cell. So beside the cells of the part it copies the frame's net
+/// bits and clears marks, which are blocks of bytes, makes an empty word for each cell, and looks at each net bit of an input
+/// port and of a register without asynchronous reset, to set those that may have changed.
 pub fn run_part(
     alloc: Global,
     case: &Arc<Case>,
@@ -285,14 +301,13 @@ pub fn run_part(
 {
     let _cycles = case.cycles();
     let _ordered = case.stimulus().lines();
-    let needed = plan.needed(part);
     match prior {
         None => {
-            let begun = first_begun(alloc, case, needed)?;
+            let begun = first_begun(alloc, case, plan, part)?;
             part_from(alloc, case, plan, part, 0, begun)
         }
         Some(frame) => {
-            let begun = next_begun(alloc, case, needed, frame)?;
+            let begun = next_begun(alloc, case, plan, part, frame)?;
             part_from(alloc, case, plan, part, frame.cycle() + 1, begun)
         }
     }

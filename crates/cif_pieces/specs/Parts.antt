@@ -1,7 +1,10 @@
--- Which cells and net bits a part of a netlist owns, which cells it evaluates, and of which it needs what they store.
-use Rattle.std.specs.Prelude.{ℕ, ◌*◌, ◌/◌, ◌<◌, ◌≡◌, ◌⊎◌, true, List, ◌∷◌, length, Option, Some, None}
+-- Which cells and net bits a part of a netlist owns, which cells it evaluates, and of which registers and memories it needs what
+-- they store.
+use Rattle.std.specs.Prelude.{ℕ, ◌*◌, ◌/◌, ◌<◌, ◌≡◌, ◌⊎◌, ◌||◌, Bool, true, List, ◌∷◌, length, Option, Some, None}
+use Rattle.cif_defs.specs.Kinds.{is_memory, is_register}
 use Rattle.cif_defs.specs.Loop.{DrivesAlong, is_passing}
 use Rattle.cif_defs.specs.Netlist.{Netlist, cell_at, driver_of, operand_at, output_at, role_at}
+use Rattle.cif_defs.specs.declared.kinds.Role.{Role}
 use Rattle.cif_defs.specs.declared.kinds.Role.TheVariants.{PlainRegister}
 use Rattle.cif_defs.specs.declared.nets.Driver.{Driver}
 use Rattle.cif_defs.specs.declared.nets.Driver.TheVariants.{Input, Output, Register, Read, Clock}
@@ -81,6 +84,14 @@ pub record IsRead (n : Netlist) (parts part c : ℕ) : Type 0 where
   pub shows : ShowsOperand n c reader
   pub evaluates : Evaluates n parts part reader
 
--- a part needs what the cells store that it evaluates, and what the registers store that these read
+-- a part uses what the cells show that it evaluates, and what the registers show that these read
+abbrev pub Uses : Netlist → ℕ → ℕ → ℕ → Type 0
+Uses n parts part c = Evaluates n parts part c ⊎ IsRead n parts part c
+
+-- registers and memories store something
+abbrev pub stores : Role → Bool
+stores r = is_register r || is_memory r
+
+-- a part needs what those of the cells store that it uses
 abbrev pub Needs : Netlist → ℕ → ℕ → ℕ → Type 0
-Needs n parts part c = Evaluates n parts part c ⊎ IsRead n parts part c
+Needs n parts part c = Uses n parts part c × (stores (role_at n c) ≡ true)

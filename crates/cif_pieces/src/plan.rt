@@ -14,8 +14,8 @@ pub struct PartCells {
     pub evaluated: Vec<u32>,
     /// The passing ones among these, in the order of evaluation.
     pub passing: Vec<u32>,
-    /// Those of which it needs what they store: those that it evaluates, and the registers without asynchronous reset that
-    /// these read.
+    /// Those of which it needs what they store: the registers and memories that it evaluates, and the registers without
+    /// asynchronous reset that its evaluated cells read.
     pub needed: Vec<u32>,
 }
 
@@ -84,8 +84,8 @@ impl Plan {
         &self.parts[part as usize].passing
     }
 
-    /// The cells of which a part needs what they store: those that it evaluates, and the registers without asynchronous
-    /// reset that these read.
+    /// The cells of which a part needs what they store: the registers and memories that it evaluates, and the registers
+    /// without asynchronous reset that its evaluated cells read.
     pub fn needed(&self, part: u32) -> &[u32]
         requires { part < self.now.parts }
         ensures { result.now ≡ get_or self.now.needed part [] }
