@@ -6,3 +6,5 @@ pub mod TopLaws
 pub mod RefusedBytes
 pub mod OrderedData
 pub mod OrderedModule
+mod LineEnd
+mod ReadBack
