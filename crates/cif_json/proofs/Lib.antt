@@ -8,3 +8,7 @@ pub mod OrderedData
 pub mod OrderedModule
 mod LineEnd
 mod ReadBack
+mod WriterSteps
+mod PlainFile
+mod FileNetlist
+mod RoundTrip

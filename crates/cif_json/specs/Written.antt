@@ -147,21 +147,33 @@ cell_name c = c.name
 abbrev pub net_name : RawName → List ℕ
 net_name n = n.name
 
+abbrev pub ports_data : List RawPort → Data
+ports_data ports = object (members_by port_name port_data ports)
+
+abbrev pub cells_data : List RawCell → Data
+cells_data cells = object (members_by cell_name cell_data cells)
+
+abbrev pub nets_data : List RawName → Data
+nets_data nets = object (members_by net_name net_data nets)
+
 -- ---- the file
 
 abbrev pub module_data : Raw → Data
 module_data raw = object (
     member (codes "attributes") (params_data raw.attributes) (
-    member (codes "cells") (object (members_by cell_name cell_data raw.cells)) (
-    member (codes "netnames") (object (members_by net_name net_data raw.names)) (
-    member (codes "ports") (object (members_by port_name port_data raw.ports))
+    member (codes "cells") (cells_data raw.cells) (
+    member (codes "netnames") (nets_data raw.names) (
+    member (codes "ports") (ports_data raw.ports)
     no_members))))
 
--- the creator, and the one module
+-- the one module
+abbrev pub modules_data : Raw → Data
+modules_data raw = object (member raw.«module» (module_data raw) no_members)
+
 abbrev pub file_data : Raw → Data
 file_data raw = object (
     member (codes "creator") (string (codes "cellift")) (
-    member (codes "modules") (object (member raw.«module» (module_data raw) no_members))
+    member (codes "modules") (modules_data raw)
     no_members))
 
 -- compact JSON, and the end of the line

@@ -2,7 +2,7 @@
 ghost use Rattle.std.specs.Prelude.{◌≡◌, List, ℕ, IsUtf8};
 ghost use Rattle.std.specs.List.{AllByRecursion};
 ghost use Rattle.serde_json.specs.Data.{Data, object};
-ghost use Rattle.cif_json.specs.Written.{bit_data, bits_data, value_data, flag_data, direction_data, members_by, param_name, param_data, connection_name, connection_data, directions, port_name, port_data, cell_name, cell_data, net_name, net_data, module_data, file_data, Adds};
+ghost use Rattle.cif_json.specs.Written.{bit_data, bits_data, value_data, flag_data, direction_data, members_by, param_name, param_data, connection_name, connection_data, directions, port_name, port_data, cell_name, cell_data, net_name, net_data, module_data, modules_data, file_data, Adds};
 ghost use Rattle.cif_json.specs.Writable.{Fits, IsValueWritable, IsParamWritable, IsConnectionWritable, IsPortWritable, IsCellWritable, IsNetWritable, IsWritable};
 
 use crate::port_direction::port_direction;
@@ -266,6 +266,16 @@ fn write_module(out: &mut Writer, raw: &Raw) -> Result<(), AllocError>
     out.end_object()
 }
 
+fn write_modules(out: &mut Writer, raw: &Raw) -> Result<(), AllocError>
+    requires { IsWritable raw.now }
+    ensures { Adds result out.old out.new (modules_data raw.now) }
+{
+    out.begin_object()?;
+    out.key(utf8(raw.module.items()))?;
+    write_module(out, raw)?;
+    out.end_object()
+}
+
 /// Writes a file of one module.
 pub fn write_file(out: &mut Writer, raw: &Raw) -> Result<(), AllocError>
     requires { IsWritable raw.now }
@@ -275,9 +285,6 @@ pub fn write_file(out: &mut Writer, raw: &Raw) -> Result<(), AllocError>
     out.key("creator")?;
     out.string("cellift")?;
     out.key("modules")?;
-    out.begin_object()?;
-    out.key(utf8(raw.module.items()))?;
-    write_module(out, raw)?;
-    out.end_object()?;
+    write_modules(out, raw)?;
     out.end_object()
 }
