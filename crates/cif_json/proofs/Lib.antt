@@ -12,3 +12,4 @@ mod WriterSteps
 mod PlainFile
 mod FileNetlist
 mod RoundTrip
+mod TextData
