@@ -13,3 +13,4 @@ mod PlainFile
 mod FileNetlist
 mod RoundTrip
 mod TextData
+mod FitModule

@@ -101,6 +101,8 @@ fn netlist_in(alloc: Global, file: Value) -> Result<Raw, JsonFault>
 pub fn read_netlist(alloc: Global, bytes: &[u8]) -> Result<Raw, JsonFault>
     ensures ok { IfOk result (λ raw. ComesTo bytes.now (Ok raw)) }
     ensures ordered { IfOk result IsInOrder }
+    ensures writable { IfOk result IsWritable }
+    ensures nets { IfOk result HasSmallNets }
     ensures err { IfErr result (λ e. IsRefused bytes.now e) }
 {
     let value = read_value(alloc, bytes)?;
