@@ -36,7 +36,6 @@ items_are_text : (es : List Known) → ItemsAreText (items_of (map view (map (λ
 items_are_text [] = tt
 items_are_text (e ∷ es) = (e.1, items_are_text es)
 
-
 members_are_text : (es : List (String Global × Known)) → MembersAreText (members_of (map (λ (m : String Global × Value). (m.0, view m.1)) (map (λ (m : String Global × Known). (m.0, m.1.0)) es)))
 members_are_text [] = tt
 members_are_text (e ∷ es) = (IsUtf8-string_bytes e.0, e.1.1, members_are_text es)
