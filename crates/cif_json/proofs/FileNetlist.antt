@@ -1,9 +1,8 @@
 -- The value of a written file stands for the module that was written.
-use Rattle.std.specs.Prelude.{ℕ, ◌<◌, ◌^◌, ◌≡◌, pos, negsuc, List, [], ◌∷◌, ◌++◌, Bool, true, false, Option, Some, None, option_map, option_and_then, Result, Ok, Err, codes, ⊤, refl}
-use Rattle.std.proofs.Common.{ap, ◌∙◌, subst, arith, lt-ltb}
+use Rattle.std.specs.Prelude.{ℕ, ◌^◌, ◌≡◌, pos, negsuc, List, [], ◌∷◌, Bool, true, false, Some, Result, Ok, ⊤, refl}
+use Rattle.std.proofs.Common.{ap, lt-ltb}
 use Rattle.std.specs.List.{AllByRecursion}
-use Rattle.serde_json.specs.Data.{Data, object, Items, item, Members, member}
-use Rattle.cif_defs.specs.Text.{line_end}
+use Rattle.serde_json.specs.Data.{Data}
 use Rattle.cif_defs.specs.declared.raw_module.RawBit.{RawBit}
 use Rattle.cif_defs.specs.declared.raw_module.RawBit.TheVariants.{Net, Zero, One, X, Z}
 use Rattle.cif_defs.specs.declared.raw_module.ParamValue.{ParamValue}
@@ -16,10 +15,10 @@ use Rattle.cif_defs.specs.declared.raw_module.RawPort.{RawPort}
 use Rattle.cif_defs.specs.declared.raw_module.RawCell.{RawCell}
 use Rattle.cif_defs.specs.declared.raw_module.RawName.{RawName}
 use Rattle.cif_defs.specs.declared.raw_module.Raw.{Raw}
-use Rattle.cif_json.specs.WrongPlace.{Place, ◌and_then◌, within, each}
-use Rattle.cif_json.specs.Shape.{bit_of, bits_of_items, bits_of, value_of, parameter, connection, kept, attributes_of, is_set, direction_of, port, cell, named_net, module_of}
+use Rattle.cif_json.specs.WrongPlace.{Place, each}
+use Rattle.cif_json.specs.Shape.{bit_of, bits_of_items, bits_of, value_of, parameter, connection, attributes_of, direction_of, port, cell, named_net, module_of}
 use Rattle.cif_json.specs.Top.{netlist_of}
-use Rattle.cif_json.specs.Written.{bit_data, bit_items, bits_data, value_data, flag_data, direction_data, members_by, param_name, param_data, connection_name, connection_data, port_data, cell_data, net_data, port_name, cell_name, net_name, module_data, file_data}
+use Rattle.cif_json.specs.Written.{bit_data, bit_items, bits_data, value_data, direction_data, members_by, param_name, param_data, connection_name, connection_data, port_data, cell_data, net_data, port_name, cell_name, net_name, module_data, file_data}
 use Rattle.cif_json.specs.Writable.{IsBitSmall, AreBitsSmall, AreConnectionsSmall, HasSmallNets}
 
 -- ---- bits and values

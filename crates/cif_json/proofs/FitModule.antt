@@ -1,11 +1,11 @@
 -- A module that was read can be written: its names and texts are UTF-8, and its numbers fit.
-use Rattle.std.specs.Prelude.{ℕ, ◌<◌, ◌^◌, ◌≡◌, pos, Bool, true, false, List, [], ◌∷◌, codes, bytes_eq, nat_lt, Option, Some, None, option_map, option_and_then, Result, Ok, Err, if◌then◌else◌, IsUtf8, ⊤, refl}
-use Rattle.std.proofs.Common.{ap, subst, Ordering, Less, Equal, Greater}
+use Rattle.std.specs.Prelude.{ℕ, ◌^◌, ◌≡◌, pos, Bool, true, false, List, [], ◌∷◌, codes, bytes_eq, nat_lt, Option, Some, None, option_map, Result, Ok, if◌then◌else◌, IsUtf8, ⊤, refl}
+use Rattle.std.proofs.Common.{subst, Ordering, Less, Equal, Greater}
 use Rattle.std.proofs.lemmas.Bool.{ltb-true}
 use Rattle.std.specs.List.{AllByRecursion}
 use Rattle.std.specs.Ordering.{match_ordering}
-use Rattle.serde_json.specs.Data.{Num, unsigned, negative, float, Data, null, boolean, number, string, array, object, Items, no_items, item, Members, no_members, member}
-use Rattle.serde_json.specs.Find.{get_member, as_str, as_object, as_array, as_u64, as_integer}
+use Rattle.serde_json.specs.Data.{unsigned, negative, float, Data, null, boolean, number, string, array, object, Items, no_items, item, Members, no_members, member}
+use Rattle.serde_json.specs.Find.{get_member, as_str, as_object, as_array}
 use Rattle.cif_defs.specs.declared.raw_module.RawBit.{RawBit}
 use Rattle.cif_defs.specs.declared.raw_module.RawBit.TheVariants.{Net, Zero, One, X, Z}
 use Rattle.cif_defs.specs.declared.raw_module.ParamValue.{ParamValue}
@@ -18,7 +18,7 @@ use Rattle.cif_defs.specs.declared.raw_module.RawName.{RawName}
 use Rattle.cif_defs.specs.declared.raw_module.Raw.{Raw}
 use Rattle.cif_defs.specs.Order.{IsInOrder}
 use Rattle.cif_json.specs.WrongPlace.{Place, ◌and_then◌, within, needed, members_of, members_if_any, each}
-use Rattle.cif_json.specs.Shape.{net_of, bit_of, bits_of_items, bits_of, value_of, param_of, parameter, kept, attributes_of, connection, needed_in, things_in, attributes_in, direction_of, port, cell, named_net, module_of}
+use Rattle.cif_json.specs.Shape.{bit_of, bits_of_items, bits_of, value_of, param_of, parameter, kept, attributes_of, connection, needed_in, things_in, attributes_in, direction_of, port, cell, named_net, module_of}
 use Rattle.cif_json.specs.Top.{some_members, modules_of, is_top, with_module, tops_of, only_one, chosen, netlist_of}
 use Rattle.cif_json.specs.Writable.{IsValueWritable, IsParamWritable, AreParamsWritable, IsConnectionWritable, IsPortWritable, IsCellWritable, IsNetWritable, IsWritable, IsBitSmall, AreBitsSmall, AreConnectionsSmall, HasSmallNets}
 use Rattle.cif_json.proofs.OrderedData.{IsNumberFit, IsOrdered, AreOrdered}

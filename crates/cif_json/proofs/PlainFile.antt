@@ -1,10 +1,10 @@
 -- The value of a written file has whole numbers alone, and its members stand in order.
-use Rattle.std.specs.Prelude.{ℕ, suc, ◌≡◌, pos, negsuc, List, [], ◌∷◌, map, Bool, true, false, Option, Some, None, codes, ⊤, refl}
-use Rattle.std.proofs.Common.{ap, subst, Less, arith}
+use Rattle.std.specs.Prelude.{ℕ, suc, ◌≡◌, pos, negsuc, List, [], ◌∷◌, map, Bool, true, false, Option, Some, None, refl}
+use Rattle.std.proofs.Common.{Less, arith}
 use Rattle.std.specs.List.{AllByRecursion}
 use Rattle.std.specs.List.Sorted.{IsStrictlySortedBy}
-use Rattle.serde_json.specs.Data.{Data, Members, no_members, member}
-use Rattle.cif_defs.specs.Order.{AreInOrder, param_names, connection_names, IsCellInOrder, IsNetInOrder, IsInOrder}
+use Rattle.serde_json.specs.Data.{Data, Members}
+use Rattle.cif_defs.specs.Order.{AreInOrder, param_names, connection_names, IsCellInOrder, IsNetInOrder}
 use Rattle.cif_defs.specs.declared.raw_module.RawBit.{RawBit}
 use Rattle.cif_defs.specs.declared.raw_module.RawBit.TheVariants.{Net, Zero, One, X, Z}
 use Rattle.cif_defs.specs.declared.raw_module.ParamValue.{ParamValue}
@@ -17,7 +17,7 @@ use Rattle.cif_defs.specs.declared.raw_module.RawCell.{RawCell}
 use Rattle.cif_defs.specs.declared.raw_module.RawName.{RawName}
 use Rattle.cif_defs.specs.declared.raw_module.Raw.{Raw}
 use Rattle.cif_json.specs.Written.{bit_items, bits_data, param_name, param_data, params_data, flag_data, members_by, connection_name, connection_data, connections_data, direction_in, with_direction, directions, port_data, cell_data, net_data, port_name, cell_name, net_name, module_data, file_data}
-use Rattle.cif_json.specs.Writable.{IsValueWritable, IsParamWritable, IsPortWritable, IsConnectionWritable, IsCellWritable, IsNetWritable, IsWritable, IsBitSmall, AreBitsSmall, AreConnectionsSmall, HasSmallNets}
+use Rattle.cif_json.specs.Writable.{IsValueWritable, IsParamWritable, IsCellWritable, IsNetWritable, IsWritable, IsBitSmall, AreBitsSmall, AreConnectionsSmall, HasSmallNets}
 use Rattle.cif_json.proofs.OrderedData.{compared, IsBelowAll, member_names}
 use Rattle.cif_json.proofs.ReadBack.{IsPlain, ItemsArePlain, MembersArePlain}
 

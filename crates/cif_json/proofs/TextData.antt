@@ -1,12 +1,12 @@
 -- The names and texts in a `Value` are UTF-8.
-use Rattle.std.specs.Prelude.{ℕ, ◌≡◌, List, [], ◌∷◌, map, String, string_bytes, IsUtf8, ⊤}
-use Rattle.std.proofs.Common.{Global, subst, sym, ap, ◌∙◌}
+use Rattle.std.specs.Prelude.{List, [], ◌∷◌, map, String, IsUtf8, ⊤}
+use Rattle.std.proofs.Common.{Global, subst, sym}
 use Rattle.std.proofs.lemmas.Str.{IsUtf8-string_bytes}
 use Rattle.serde_json.specs.Data.{Data, null, boolean, number, string, array, object, Items, no_items, item, Members, no_members, member}
 use Rattle.serde_json.specs.View.{view, view_step, items_of, members_of}
 use Rattle.serde_json.specs.declared.value.Value.{Value, map-Value}
 use Rattle.serde_json.specs.declared.value.Value.TheOpen.{Value-F}
-use Rattle.serde_json.specs.declared.value.Value.TheFolds.{fold-Value, fold-roll-Value, ind-Value}
+use Rattle.serde_json.specs.declared.value.Value.TheFolds.{fold-roll-Value, ind-Value}
 
 -- names and texts are UTF-8
 abbrev mutual

@@ -1,6 +1,6 @@
 -- An object that is written member by member: the members that are left end it well.
-use Rattle.std.proofs.Common.{◌≡◌, ℕ, List, [], ◌∷◌, ◌++◌, sym, ap, ◌∙◌, append_assoc}
-use Rattle.json.specs.Token.{Token, begin_object, end_object, key}
+use Rattle.std.proofs.Common.{◌≡◌, ℕ, List, [], ◌∷◌, ◌++◌, ap, ◌∙◌, append_assoc}
+use Rattle.json.specs.Token.{begin_object, end_object, key}
 use Rattle.json.specs.Tree.{members_tokens}
 use Rattle.json.specs.Written.{Written as Writing}
 use Rattle.serde_json.specs.Data.{Data, null, boolean, number, string, array, object, Members, no_members, member}

@@ -1,5 +1,5 @@
 -- Which modules can be written: their names and texts are UTF-8, their numbers fit, and their names stand in order.
-use Rattle.std.specs.Prelude.{ℕ, ◌<◌, ◌^◌, ℤ, pos, negsuc, List, IsUtf8, ⊤}
+use Rattle.std.specs.Prelude.{◌<◌, ◌^◌, ℤ, pos, negsuc, List, IsUtf8, ⊤}
 use Rattle.std.specs.List.{AllByRecursion}
 use Rattle.cif_defs.specs.Order.{IsInOrder}
 use Rattle.cif_defs.specs.declared.raw_module.RawBit.{RawBit}

@@ -1,4 +1,4 @@
-use Rattle.std.proofs.Common.{ap, refl}
+use Rattle.std.proofs.Common.{ap}
 use Rattle.cif_json.specs.Written.{module_data, params_data, cells_data, nets_data, ports_data}
 use Rattle.cif_json.proofs.WriterSteps.{members_in, opened, member_done, closed}
 use Rattle.std.proofs.lemmas.Result.{on_ok_weaker}
