@@ -18,7 +18,7 @@ use Rattle.cif_defs.specs.declared.raw_module.Raw.{Raw}
 use Rattle.cif_json.specs.WrongPlace.{Place, each}
 use Rattle.cif_json.specs.Shape.{bit_of, bits_of_items, bits_of, value_of, parameter, connection, attributes_of, direction_of, port, cell, named_net, module_of}
 use Rattle.cif_json.specs.Top.{netlist_of}
-use Rattle.cif_json.specs.Written.{bit_data, bit_items, bits_data, value_data, direction_data, members_by, param_name, param_data, connection_name, connection_data, port_data, cell_data, net_data, port_name, cell_name, net_name, module_data, file_data}
+use Rattle.cif_json.specs.WrittenNetlist.{bit_data, bit_items, bits_data, value_data, direction_data, members_by, param_name, param_data, connection_name, connection_data, port_data, cell_data, net_data, port_name, cell_name, net_name, module_data, file_data}
 use Rattle.cif_json.specs.Writable.{IsBitSmall, AreBitsSmall, AreConnectionsSmall, HasSmallNets}
 
 -- ---- bits and values

@@ -11,6 +11,6 @@ mod ReadBack
 mod WriterSteps
 mod PlainFile
 mod FileNetlist
-mod RoundTrip
+mod NetlistRoundTrip
 mod TextData
 mod FitModule

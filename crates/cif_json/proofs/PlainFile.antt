@@ -16,7 +16,7 @@ use Rattle.cif_defs.specs.declared.raw_module.RawPort.{RawPort}
 use Rattle.cif_defs.specs.declared.raw_module.RawCell.{RawCell}
 use Rattle.cif_defs.specs.declared.raw_module.RawName.{RawName}
 use Rattle.cif_defs.specs.declared.raw_module.Raw.{Raw}
-use Rattle.cif_json.specs.Written.{bit_items, bits_data, param_name, param_data, params_data, flag_data, members_by, connection_name, connection_data, connections_data, direction_in, with_direction, directions, port_data, cell_data, net_data, port_name, cell_name, net_name, module_data, file_data}
+use Rattle.cif_json.specs.WrittenNetlist.{bit_items, bits_data, param_name, param_data, params_data, flag_data, members_by, connection_name, connection_data, connections_data, direction_in, with_direction, directions, port_data, cell_data, net_data, port_name, cell_name, net_name, module_data, file_data}
 use Rattle.cif_json.specs.Writable.{IsValueWritable, IsParamWritable, IsCellWritable, IsNetWritable, IsWritable, IsBitSmall, AreBitsSmall, AreConnectionsSmall, HasSmallNets}
 use Rattle.cif_json.proofs.OrderedData.{compared, IsBelowAll, member_names}
 use Rattle.cif_json.proofs.ReadBack.{IsPlain, ItemsArePlain, MembersArePlain}

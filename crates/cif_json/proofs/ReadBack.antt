@@ -17,7 +17,7 @@ use Rattle.serde_json.specs.Written.{number_text, outline, items_outline, member
 use Rattle.serde_json.proofs.Numbers.{number_of-decimal, number_of-negative}
 use Rattle.serde_json.proofs.Texts.{print-outline}
 use Rattle.cif_defs.specs.Text.{line_end}
-use Rattle.cif_json.specs.Written.{data_tokens}
+use Rattle.cif_json.specs.WrittenNetlist.{data_tokens}
 use Rattle.cif_json.proofs.OrderedData.{compared, IsBelowAll, member_names}
 use Rattle.cif_json.proofs.LineEnd.{tokens_with_line_end}
 

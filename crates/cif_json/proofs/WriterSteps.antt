@@ -5,7 +5,7 @@ use Rattle.json.specs.Tree.{members_tokens}
 use Rattle.json.specs.Written.{Written as Writing}
 use Rattle.serde_json.specs.Data.{Data, null, boolean, number, string, array, object, Members, no_members, member}
 use Rattle.serde_json.specs.Written.{members_outline}
-use Rattle.cif_json.specs.Written.{data_tokens}
+use Rattle.cif_json.specs.WrittenNetlist.{data_tokens}
 
 abbrev pub members_in : Data → Members
 members_in null = no_members

@@ -21,7 +21,7 @@ ghost use Rattle.std.specs.Prelude.{◌≡◌, ◌++◌, codes, Ok, IfOk, IfErr}
 ghost use Rattle.serde_json.specs.View.{view};
 ghost use Rattle.cif_defs.specs.Order.{IsInOrder};
 ghost use Rattle.cif_json.specs.Top.{netlist_of};
-ghost use Rattle.cif_json.specs.Written.{netlist_text};
+ghost use Rattle.cif_json.specs.WrittenNetlist.{netlist_text};
 ghost use Rattle.cif_json.specs.Writable.{IsWritable, HasSmallNets};
 ghost use Rattle.cif_json.specs.Answers.{IsFaultOf, IsFirst, ReadsAs, IsUnread, ComesTo, IsRefused};
 

@@ -1,6 +1,6 @@
 // The directions of a cell's ports.
 ghost use Rattle.std.specs.Prelude.{◌≡◌, option_and_then};
-ghost use Rattle.cif_json.specs.Written.{is_ignored, has_port as has_port_in, port_direction as direction_of_port};
+ghost use Rattle.cif_json.specs.WrittenNetlist.{is_ignored, has_port as has_port_in, port_direction as direction_of_port};
 
 use cif_defs::{Direction, Kind, PortRow};
 use cif_kinds::table::{clocks, operands, outputs, port_name};

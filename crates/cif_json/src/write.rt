@@ -2,7 +2,7 @@
 ghost use Rattle.std.specs.Prelude.{◌≡◌, List, ℕ, IsUtf8};
 ghost use Rattle.std.specs.List.{AllByRecursion};
 ghost use Rattle.serde_json.specs.Data.{Data, object};
-ghost use Rattle.cif_json.specs.Written.{bit_data, bits_data, value_data, flag_data, direction_data, members_by, param_name, param_data, connection_name, connection_data, directions, port_name, port_data, cell_name, cell_data, net_name, net_data, module_data, modules_data, file_data, Adds};
+ghost use Rattle.cif_json.specs.WrittenNetlist.{bit_data, bits_data, value_data, flag_data, direction_data, members_by, param_name, param_data, connection_name, connection_data, directions, port_name, port_data, cell_name, cell_data, net_name, net_data, module_data, modules_data, file_data, Adds};
 ghost use Rattle.cif_json.specs.Writable.{Fits, IsValueWritable, IsParamWritable, IsConnectionWritable, IsPortWritable, IsCellWritable, IsNetWritable, IsWritable};
 
 use crate::port_direction::port_direction;

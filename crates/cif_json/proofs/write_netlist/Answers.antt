@@ -1,8 +1,8 @@
 use Rattle.std.proofs.Common.{◌≡◌, ◌++◌, sym, ap, ◌∙◌, subst}
 use Rattle.std.specs.Str.{IsUtf8}
 use Rattle.json.specs.Print.{print}
-use Rattle.cif_json.specs.Written.{file_data, data_tokens}
-use Rattle.cif_json.proofs.RoundTrip.{is_text, is_utf8, round_trip}
+use Rattle.cif_json.specs.WrittenNetlist.{file_data, data_tokens}
+use Rattle.cif_json.proofs.NetlistRoundTrip.{is_text, is_utf8, round_trip}
 use Rattle.cif_json.proofs.write_netlist.Goals as goal
 
 pub returns-clause-text : goal.returns-clause-text

@@ -1,7 +1,7 @@
 use Rattle.std.proofs.Common.{◌≡◌, ◌++◌, drop}
 use Rattle.json.specs.Tree.{items_tokens}
 use Rattle.serde_json.specs.Written.{items_outline}
-use Rattle.cif_json.specs.Written.{bit_items, bits_data, data_tokens}
+use Rattle.cif_json.specs.WrittenNetlist.{bit_items, bits_data, data_tokens}
 use Rattle.cif_json.proofs.write.write_bits.Given as goal
 
 abbrev pub invariant-loop-bit : goal.invariant-loop-bit

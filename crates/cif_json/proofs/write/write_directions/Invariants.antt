@@ -4,7 +4,7 @@ use Rattle.json.specs.Tree.{members_tokens}
 use Rattle.serde_json.specs.Data.{object}
 use Rattle.serde_json.specs.Written.{members_outline}
 use Rattle.cif_json.specs.Writable.{IsConnectionWritable}
-use Rattle.cif_json.specs.Written.{directions, data_tokens}
+use Rattle.cif_json.specs.WrittenNetlist.{directions, data_tokens}
 use Rattle.cif_json.proofs.write.write_directions.Given as goal
 
 abbrev pub invariant-loop-connection : goal.invariant-loop-connection

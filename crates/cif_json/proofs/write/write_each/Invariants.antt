@@ -3,7 +3,7 @@ use Rattle.std.specs.List.{AllByRecursion}
 use Rattle.json.specs.Tree.{members_tokens}
 use Rattle.serde_json.specs.Data.{object}
 use Rattle.serde_json.specs.Written.{members_outline}
-use Rattle.cif_json.specs.Written.{members_by, data_tokens}
+use Rattle.cif_json.specs.WrittenNetlist.{members_by, data_tokens}
 use Rattle.cif_json.proofs.write.write_each.Given as goal
 
 abbrev pub invariant-loop-thing : goal.invariant-loop-thing

@@ -1,5 +1,5 @@
 use Rattle.std.proofs.Common.{refl}
-use Rattle.cif_json.specs.Written.{file_data}
+use Rattle.cif_json.specs.WrittenNetlist.{file_data}
 use Rattle.cif_json.proofs.WriterSteps.{members_in, opened, member_done, closed}
 use Rattle.std.proofs.lemmas.Result.{on_ok_weaker}
 use Rattle.cif_json.proofs.write.write_file.Goals as goal

@@ -1,5 +1,5 @@
 use Rattle.std.proofs.Common.{ap}
-use Rattle.cif_json.specs.Written.{module_data, params_data, cells_data, nets_data, ports_data}
+use Rattle.cif_json.specs.WrittenNetlist.{module_data, params_data, cells_data, nets_data, ports_data}
 use Rattle.cif_json.proofs.WriterSteps.{members_in, opened, member_done, closed}
 use Rattle.std.proofs.lemmas.Result.{on_ok_weaker}
 use Rattle.cif_json.proofs.write.write_module.Goals as goal

@@ -1,6 +1,6 @@
 use Rattle.std.proofs.Common.{ap, refl, [], ◌∷◌, ◌++◌, ◌∙◌}
 use Rattle.json.specs.Token.{key}
-use Rattle.cif_json.specs.Written.{modules_data}
+use Rattle.cif_json.specs.WrittenNetlist.{modules_data}
 use Rattle.cif_json.proofs.WriterSteps.{members_in, opened, member_done, closed}
 use Rattle.std.proofs.lemmas.Result.{on_ok_weaker}
 use Rattle.cif_json.proofs.write.write_modules.Goals as goal

@@ -1,6 +1,6 @@
 use Rattle.std.proofs.Common.{ap, ap₂, refl, ◌∙◌}
 use Rattle.serde_json.specs.Data.{string, object}
-use Rattle.cif_json.specs.Written.{cell_data, params_data, connections_data, directions}
+use Rattle.cif_json.specs.WrittenNetlist.{cell_data, params_data, connections_data, directions}
 use Rattle.cif_json.proofs.WriterSteps.{members_in, opened, member_done, closed}
 use Rattle.std.proofs.lemmas.Result.{on_ok_weaker}
 use Rattle.cif_json.proofs.write.RawCellToMember.write.Goals as goal

@@ -1,5 +1,5 @@
 use Rattle.std.proofs.Common.{ap, refl}
-use Rattle.cif_json.specs.Written.{net_data, bits_data, params_data}
+use Rattle.cif_json.specs.WrittenNetlist.{net_data, bits_data, params_data}
 use Rattle.cif_json.proofs.WriterSteps.{members_in, opened, member_done, closed}
 use Rattle.std.proofs.lemmas.Result.{on_ok_weaker}
 use Rattle.cif_json.proofs.write.RawNameToMember.write.Goals as goal

@@ -11,7 +11,7 @@ use Rattle.serde_json.specs.Read.{read}
 use Rattle.cif_defs.specs.Text.{line_end}
 use Rattle.cif_defs.specs.declared.raw_module.Raw.{Raw}
 use Rattle.cif_json.specs.Answers.{ComesTo}
-use Rattle.cif_json.specs.Written.{file_data, data_tokens, netlist_text}
+use Rattle.cif_json.specs.WrittenNetlist.{file_data, data_tokens, netlist_text}
 use Rattle.cif_json.specs.Writable.{IsWritable, HasSmallNets}
 use Rattle.cif_json.proofs.ReadBack.{read_back}
 use Rattle.cif_json.proofs.PlainFile.{file_plain, file_levels}
