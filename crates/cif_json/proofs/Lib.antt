@@ -6,3 +6,11 @@ pub mod TopLaws
 pub mod RefusedBytes
 pub mod OrderedData
 pub mod OrderedModule
+mod LineEnd
+mod ReadBack
+mod WriterSteps
+mod PlainFile
+mod FileNetlist
+mod NetlistRoundTrip
+mod TextData
+mod FitModule

@@ -1,17 +1,22 @@
--- What is read as JSON has the members of each object in byte order of name, each name once.
-use Rattle.std.specs.Prelude.{ℕ, ◌≡◌, List, [], ◌∷◌, Option, Some, None, option_map, option_and_then, ⊤, refl}
-use Rattle.std.proofs.Common.{ap, ◌∙◌, subst, Ordering, Less, Equal, Greater, nat_cmp}
+-- What is read as JSON has the members of each object in byte order of name, each name once, and whole numbers of at
+-- most 64 bits.
+use Rattle.std.specs.Prelude.{ℕ, zero, suc, ◌<◌, ◌≤◌, ◌^◌, ◌&&◌, ◌==◌, pos, neg_ℤ, Bool, true, false, Float, ◌≡◌, List, [], ◌∷◌, drop, slice_index, nat_lt, nat_le, Option, Some, None, option_map, option_and_then, if◌then◌else◌, ⊤, refl}
+use Rattle.std.proofs.Common.{ap, ◌∙◌, subst, arith, Ordering, Less, Equal, Greater, nat_cmp}
+use Rattle.std.proofs.lemmas.Bool.{and_parts, ltb-true, leb-true}
 use Rattle.std.proofs.lemmas.Cmp.{nat_list_cmp_total}
 use Rattle.std.specs.Cmp.Lexicographic.{slice_cmp}
 use Rattle.std.specs.List.{AllByRecursion}
 use Rattle.std.specs.List.Sorted.{IsStrictlySortedBy}
 use Rattle.std.specs.Ordering.{match_ordering, ordering_reverse}
+use Rattle.std.specs.Float.{binary64, float_is_finite}
+use Rattle.fast_float.specs.Text.{minus, Parts, scan, digits_of, nearest, with_sign}
 use Rattle.json.specs.Lex.{tokens}
 use Rattle.json.specs.Json as json
-use Rattle.serde_json.specs.Data.{Num, Data, null, boolean, number, string, array, object, Items, no_items, item, Members, no_members, member, put}
-use Rattle.serde_json.specs.Read.{number_of, of_json, of_items, of_members, max_depth, read}
+use Rattle.serde_json.specs.Data.{Num, unsigned, negative, float, Data, null, boolean, number, string, array, object, Items, no_items, item, Members, no_members, member, put}
+use Rattle.serde_json.specs.Read.{is_integer, float_of, number_from, number_of, of_json, of_items, of_members, max_depth, read}
 use Rattle.serde_json.specs.Find.{get_member, as_object}
 use Rattle.cif_defs.specs.Order.{AreInOrder}
+use Rattle.cif_json.specs.Writable.{Fits}
 
 abbrev pub compared : List ℕ → List ℕ → Ordering
 compared = slice_cmp nat_cmp
@@ -24,11 +29,17 @@ abbrev pub member_names : Members → List (List ℕ)
 member_names no_members = []
 member_names (member k d ms) = k ∷ member_names ms
 
+-- a whole number is one of at most 64 bits
+abbrev pub IsNumberFit : Num → Type 0
+IsNumberFit (unsigned n) = n < 2 ^ 64
+IsNumberFit (negative z) = Fits z
+IsNumberFit (float x) = ⊤
+
 abbrev mutual
   pub IsOrdered : Data → Type 0
   IsOrdered null = ⊤
   IsOrdered (boolean b) = ⊤
-  IsOrdered (number n) = ⊤
+  IsOrdered (number n) = IsNumberFit n
   IsOrdered (string s) = ⊤
   IsOrdered (array ds) = ItemsAreOrdered ds
   IsOrdered (object ms) = AreOrdered ms
@@ -77,9 +88,44 @@ put_ordered k d (member l e ms) hd h = put_ordered_at (compared k l) k l d e ms 
 
 -- ---- what is read
 
-number_ordered : (o : Option Num) (d : Data) → option_map number o ≡ Some d → IsOrdered d
-number_ordered None d e = absurd (cc)
-number_ordered (Some n) d e = let is : number n ≡ d = (cc) in subst IsOrdered is tt
+-- one of two ways gave n
+either : {n : Num} (b : Bool) (x y : Option Num) → (b ≡ true → x ≡ Some n → IsNumberFit n) → (y ≡ Some n → IsNumberFit n) → (if b then x else y) ≡ Some n → IsNumberFit n
+either true x y first second e = first refl e
+either false x y first second e = second e
+
+negative_fits : (m : ℕ) → m ≤ 2 ^ 63 → Fits (neg_ℤ (pos m))
+negative_fits zero h = omega arith
+negative_fits (suc m) h = omega (arith, h)
+
+unsigned_fits : (m : ℕ) (n : Num) → nat_lt m (2 ^ 64) ≡ true → Some (unsigned m) ≡ Some n → IsNumberFit n
+unsigned_fits m n h e = let is : unsigned m ≡ n = (cc) in subst IsNumberFit is (ltb-true m (2 ^ 64) h)
+
+negative_number_fits : (m : ℕ) (n : Num) → nat_le m (2 ^ 63) ≡ true → Some (negative (neg_ℤ (pos m))) ≡ Some n → IsNumberFit n
+negative_number_fits m n h e = let is : negative (neg_ℤ (pos m)) ≡ n = (cc) in subst IsNumberFit is (negative_fits m (leb-true m (2 ^ 63) h))
+
+is_float_fit : (x : Float) (n : Num) → Some (float x) ≡ Some n → IsNumberFit n
+is_float_fit x n e = let is : float x ≡ n = (cc) in subst IsNumberFit is tt
+
+float_fits : (b : Bool) (x : Float) (n : Num) → (if b then Some (float x) else None) ≡ Some n → IsNumberFit n
+float_fits b x n e = either b (Some (float x)) None (λ h. is_float_fit x n) (λ none. absurd (cc)) e
+
+number_from_fits : (sign : Bool) (p : Parts) (n : Num) → number_from sign p ≡ Some n → IsNumberFit n
+number_from_fits true p n e =
+    either (is_integer p && nat_lt 0 (digits_of p) && nat_le (digits_of p) (2 ^ 63)) (Some (negative (with_sign true (digits_of p)))) (float_of true p)
+    (λ h is. negative_number_fits (digits_of p) n ((and_parts (is_integer p && nat_lt 0 (digits_of p)) _ h).1) is) (float_fits (float_is_finite (nearest binary64 true p)) (nearest binary64 true p) n) e
+number_from_fits false p n e =
+    either (is_integer p && nat_lt (digits_of p) (2 ^ 64)) (Some (unsigned (digits_of p))) (float_of false p)
+    (λ h is. unsigned_fits (digits_of p) n ((and_parts (is_integer p) _ h).1) is) (float_fits (float_is_finite (nearest binary64 false p)) (nearest binary64 false p) n) e
+
+number_fits : (s : List ℕ) (n : Num) → number_of s ≡ Some n → IsNumberFit n
+unfolding number_of
+number_fits s n e =
+    either (slice_index s 0 == minus) (number_from true (scan (drop 1 s))) (number_from false (scan s))
+    (λ h is. number_from_fits true (scan (drop 1 s)) n is) (number_from_fits false (scan s) n) e
+
+number_ordered : (o : Option Num) (d : Data) → ((n : Num) → o ≡ Some n → IsNumberFit n) → option_map number o ≡ Some d → IsOrdered d
+number_ordered None d h e = absurd (cc)
+number_ordered (Some n) d h e = let is : number n ≡ d = (cc) in subst IsOrdered is (h n refl)
 
 array_ordered : (o : Option Items) (d : Data) → ((ds : Items) → o ≡ Some ds → ItemsAreOrdered ds) → option_map array o ≡ Some d → IsOrdered d
 array_ordered None d h e = absurd (cc)
@@ -107,7 +153,7 @@ mutual
   value_ordered : (j : json.Json) (d : Data) → of_json j ≡ Some d → IsOrdered d
   value_ordered json.null d e = let is : null ≡ d = (cc) in subst IsOrdered is tt
   value_ordered (json.boolean b) d e = let is : boolean b ≡ d = (cc) in subst IsOrdered is tt
-  value_ordered (json.number s) d e = number_ordered (number_of s) d e
+  value_ordered (json.number s) d e = number_ordered (number_of s) d (number_fits s) e
   value_ordered (json.string s) d e = let is : string s ≡ d = (cc) in subst IsOrdered is tt
   value_ordered (json.array js) d e = array_ordered (of_items js) d (λ ds h. items_ordered js ds h) e
   value_ordered (json.object ms) d e = object_ordered (of_members ms no_members) d (λ found h. members_ordered ms no_members found tt h) e

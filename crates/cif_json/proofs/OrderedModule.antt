@@ -21,26 +21,26 @@ use Rattle.cif_json.proofs.OrderedData.{compared, IsBelowAll, member_names, IsOr
 
 -- ---- a reading that came to something
 
-then_gave : {A B E : Type 0} (r : Result A E) (next : A → Result B E) (y : B) → (r and_then next) ≡ Ok y → (x : A) × (r ≡ Ok x) × (next x ≡ Ok y)
+pub then_gave : {A B E : Type 0} (r : Result A E) (next : A → Result B E) (y : B) → (r and_then next) ≡ Ok y → (x : A) × (r ≡ Ok x) × (next x ≡ Ok y)
 then_gave (Ok x) next y e = (x, refl, e)
 then_gave (Err fault) next y e = absurd (cc)
 
-ok_gave : {A E : Type 0} (r : Result A E) (x y : A) → r ≡ Ok x → r ≡ Ok y → x ≡ y
+pub ok_gave : {A E : Type 0} (r : Result A E) (x y : A) → r ≡ Ok x → r ≡ Ok y → x ≡ y
 ok_gave r x y e f = (cc)
 
-within_gave : {A : Type 0} (name : List ℕ) (r : Result A Place) (x : A) → within name r ≡ Ok x → r ≡ Ok x
+pub within_gave : {A : Type 0} (name : List ℕ) (r : Result A Place) (x : A) → within name r ≡ Ok x → r ≡ Ok x
 within_gave name (Ok y) x e = e
 within_gave name (Err place) x e = absurd (cc)
 
-needed_gave : {A : Type 0} (o : Option A) (x : A) → needed o ≡ Ok x → o ≡ Some x
+pub needed_gave : {A : Type 0} (o : Option A) (x : A) → needed o ≡ Ok x → o ≡ Some x
 needed_gave None x e = absurd (cc)
 needed_gave (Some y) x e = let is : y ≡ x = (cc) in ap Some is
 
-file_gave : {A : Type 0} (r : Result A Place) (x : A) → from_file r ≡ Ok x → r ≡ Ok x
+pub file_gave : {A : Type 0} (r : Result A Place) (x : A) → from_file r ≡ Ok x → r ≡ Ok x
 file_gave (Ok y) x e = let is : y ≡ x = (cc) in ap Ok is
 file_gave (Err place) x e = absurd (cc)
 
-there : {A E : Type 0} (o : Option A) (fault : E) (x : A) → ok_or o fault ≡ Ok x → o ≡ Some x
+pub there : {A E : Type 0} (o : Option A) (fault : E) (x : A) → ok_or o fault ≡ Ok x → o ≡ Some x
 there None fault x e = absurd (cc)
 there (Some y) fault x e = let is : y ≡ x = (cc) in ap Some is
 
@@ -196,11 +196,11 @@ chosen_ordered no_members m h e = absurd (cc)
 chosen_ordered (member name d no_members) m h e = let is : (name, d) ≡ m = (cc) in subst HoldsOrdered is h.1
 chosen_ordered (member name d (member other f ms)) m h e = one_ordered _ m (tops_ordered (member name d (member other f ms)) h) e
 
-some_gave : {A B : Type 0} (o : Option A) (next : A → Option B) (y : B) → option_and_then next o ≡ Some y → (x : A) × (o ≡ Some x) × (next x ≡ Some y)
+pub some_gave : {A B : Type 0} (o : Option A) (next : A → Option B) (y : B) → option_and_then next o ≡ Some y → (x : A) × (o ≡ Some x) × (next x ≡ Some y)
 some_gave None next y e = absurd (cc)
 some_gave (Some x) next y e = (x, refl, e)
 
-some_members_same : (ms out : Members) → some_members ms ≡ Some out → ms ≡ out
+pub some_members_same : (ms out : Members) → some_members ms ≡ Some out → ms ≡ out
 some_members_same no_members out e = absurd (cc)
 some_members_same (member name d ms) out e = (cc)
 

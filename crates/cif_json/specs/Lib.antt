@@ -3,3 +3,5 @@ pub mod Shape
 pub mod Top
 pub mod Answers
 pub mod SeenMembers
+pub mod WrittenNetlist
+pub mod Writable
