@@ -17,10 +17,11 @@ pub record AreNewNets (before after : Maker) (width : ℕ) (bits : List RawBit) 
   pub nets : list_all is_net bits ≡ true
   pub as_wide : length bits ≡ width
   pub handed : after.handed ≡ before.handed + width
+  pub made : after.made ≡ before.made
 
 -- one cell that was appended, and its output bits, which are new nets
 pub record IsAdded (before after : Maker) (old new : List RawCell) (c : RawCell) (width : ℕ) (y : List RawBit) : Type 0 where
   pub appended : new ≡ old ++ c ∷ []
-  pub bits : AreNewNets before after width y
+  pub nets : AreNewNets before (record after { made = before.made }) width y
   pub made : after.made ≡ before.made + 1
   pub kept : IsKept before after

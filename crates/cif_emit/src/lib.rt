@@ -5,7 +5,9 @@
 //! have new names, drive new nets, and read only operands and what cells before them drive (`specs/Emitted.antt`).
 #![tactic(auto)]
 
+mod cells;
 mod names;
+mod pieces;
 mod scope;
 mod terms;
 

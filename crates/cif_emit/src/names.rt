@@ -1,9 +1,9 @@
 // New net numbers and new names of cells.
 
-ghost use Rattle.std.specs.Prelude.{◌≡◌, ◌+◌, ◌<◌, ◌≤◌, ◌^◌, ◌++◌, ℕ, [], None, Some, IfOk, length, slice_index, codes, unwrap_or, false, true};
+ghost use Rattle.std.specs.Prelude.{◌≡◌, ◌+◌, ◌<◌, ◌≤◌, ◌^◌, ℕ, None, Some, IfOk, length, slice_index, false, true};
 ghost use Rattle.std.specs.List.Sorted.{IsStrictlyIncreasing};
 ghost use Rattle.cif_checks.specs.Checks.{has_number};
-ghost use Rattle.cif_emit.specs.Makers.{IsFree, further_name, name_in, with_number};
+ghost use Rattle.cif_emit.specs.Makers.{IsFree, further_name as name_with, name_in, with_number};
 ghost use Rattle.cif_emit.specs.Handed.{AreNewNets, IsKept};
 
 use cif_bits::NoMemory;
@@ -86,6 +86,16 @@ struct Unused {
     passed: usize,
 }
 
+/// The name `C__t` and a number of a cell `C`.
+fn further_name(alloc: Global, cell: &[u8], index: u64) -> Result<Name, NoMemory>
+    ensures { IfOk result (λ name. name ≡ name_with cell.now index) }
+{
+    let mut name = Vec::from_slice(alloc, cell)?;
+    name.extend_from_slice(b"__t")?;
+    push_number(alloc, &mut name, index)?;
+    Ok(Name::of(name))
+}
+
 /// The least number from `from` on that isn't used; the first `passed` used numbers are below `from`.
 fn least_unused(used: &[u64], from: u64, passed: usize) -> Unused
     requires rising { IsStrictlyIncreasing used.now }
@@ -157,5 +167,69 @@ impl NameMaker {
             made: counts.made,
         };
         unused.number
+    }
+
+    /// The next net number; want of memory where no more can be handed out.
+    fn checked_net(&mut self) -> Result<u64, NoMemory>
+        ensures kept { IsKept self.old self.new }
+        ensures ok { IfOk result (λ x. IsFree self.old x × (self.new ≡ with_number self.old x)) }
+    {
+        if self.counts.handed >= NUMBER_LIMIT {
+            return Err(NoMemory);
+        }
+        Ok(self.net())
+    }
+
+    /// New nets, `width` of them.
+    pub(crate) fn nets(&mut self, alloc: Global, width: usize) -> Result<Vec<RawBit>, NoMemory>
+        ensures kept { IsKept self.old self.new }
+        ensures ok { IfOk result (λ y. AreNewNets self.old self.new width y.items) }
+    {
+        let mut bits = Vec::with_capacity(alloc, width)?;
+        for _ in 0..width {
+            let number = self.checked_net()?;
+            bits.push(RawBit::Net(number))?;
+        }
+        Ok(bits)
+    }
+
+    /// The next name of the cell that was begun.
+    pub(crate) fn cell_name(&mut self, alloc: Global) -> Result<Name, NoMemory>
+        ensures kept { IsKept self.old self.new }
+        ensures ok { IfOk result (λ name. (name ≡ name_in self.old self.old.made)
+            × (self.new ≡ record self.old { made = self.old.made + 1 })) }
+    {
+        let made = self.counts.made;
+        let Some(next) = made.checked_add(1) else {
+            return Err(NoMemory);
+        };
+        let cell: &[u8] = match &self.cell {
+            Some(cell) => cell.items(),
+            None => &[],
+        };
+        let name = further_name(alloc, cell, made)?;
+        self.counts.made = next;
+        Ok(name)
+    }
+}
+
+/// What a maker goes back to.
+impl NameMaker {
+    ghost use Rattle.cif_emit.specs.Counting.{maker_from, AreCounts};
+
+    /// How far it has come.
+    pub(crate) fn counts(&self) -> Counts
+        ensures sound { AreCounts self.now.used result }
+        ensures same { self.now ≡ maker_from self.now.used self.now.cell result }
+    {
+        self.counts
+    }
+
+    /// Goes back to where it had come.
+    pub(crate) fn restore(&mut self, counts: Counts)
+        requires { AreCounts self.old.used counts }
+        ensures { self.new ≡ maker_from self.old.used self.old.cell counts }
+    {
+        self.counts = counts;
     }
 }

@@ -1,0 +1,6 @@
+pub mod Numbers
+pub mod NewNets
+pub mod Emissions
+pub mod Shapes
+pub mod CellLaws
+pub mod Views
