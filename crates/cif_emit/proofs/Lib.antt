@@ -3,4 +3,5 @@ pub mod NewNets
 pub mod Emissions
 pub mod Shapes
 pub mod CellLaws
+pub mod PieceLaws
 pub mod Views

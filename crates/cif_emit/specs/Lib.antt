@@ -7,3 +7,4 @@ pub mod Scopes
 pub mod MakerView
 pub mod Handed
 pub mod Pieces
+pub mod Constants
