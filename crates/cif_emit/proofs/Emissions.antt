@@ -218,3 +218,21 @@ weaker inputs more Means Meant j k width wanted a known means cost wide = record
   cost_limit = (let c : length a.cells ≤ j = a.cost_limit in omega arith);
   as_wide = a.as_wide ∙ wide;
 }
+
+-- other bits made of those that were emitted
+pub shown_emitted : {m n : Maker} {old new : List RawCell} {inputs bits : List RawBit} {j width : ℕ} (Means Meant : (ℕ → Bool) → Word → Type 0) (zs : List RawBit) (wanted : ℕ)
+    → IsEmitted m n old new inputs Means j width bits
+    → ((known : List ℕ) → are_known known bits ≡ true → are_known known zs ≡ true)
+    → ((v : ℕ → Bool) → Means v (raw_word v bits) → Meant v (raw_word v zs))
+    → length zs ≡ wanted
+    → IsEmitted m n old new inputs Meant j wanted zs
+shown_emitted Means Meant zs wanted a shown means wide = record {
+  cells = a.cells;
+  appended = a.appended;
+  made = a.made;
+  reads = a.reads;
+  shows = λ l h. shown _ (a.shows l h);
+  means = λ v h. means v (a.means v h);
+  cost_limit = a.cost_limit;
+  as_wide = wide;
+}

@@ -4,4 +4,5 @@ pub mod Emissions
 pub mod Shapes
 pub mod CellLaws
 pub mod PieceLaws
+pub mod TermLaws
 pub mod Views
