@@ -236,3 +236,17 @@ shown_emitted Means Meant zs wanted a shown means wide = record {
   cost_limit = a.cost_limit;
   as_wide = wide;
 }
+
+-- the same cells after others
+pub moved_emitted : {m n : Maker} {start here old new : List RawCell} {inputs bits : List RawBit} {j width : ℕ} (Means : (ℕ → Bool) → Word → Type 0) → start ≡ [] → new ≡ old ++ here
+    → IsEmitted m n start here inputs Means j width bits → IsEmitted m n old new inputs Means j width bits
+moved_emitted {old = old} Means none all a = record {
+  cells = a.cells;
+  appended = all ∙ ap (λ (l : List RawCell). old ++ l) (a.appended ∙ ap (λ (l : List RawCell). l ++ a.cells) none);
+  made = a.made;
+  reads = a.reads;
+  shows = a.shows;
+  means = a.means;
+  cost_limit = a.cost_limit;
+  as_wide = a.as_wide;
+}

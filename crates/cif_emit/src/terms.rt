@@ -134,7 +134,14 @@ fn emit_in(
         }
         Term::Let(named, body) => {
             let bits = emit_in(named, alloc, ports, scope, names, cells)?;
-            emit_in(body, alloc, ports, &Scope::Inside(&bits, &*scope), names, cells)
+            emit_in(
+                body,
+                alloc,
+                ports,
+                &Scope::Inside(&bits, &*scope),
+                names,
+                cells,
+            )
         }
     }
 }

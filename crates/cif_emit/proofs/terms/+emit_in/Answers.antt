@@ -153,6 +153,11 @@ returns-in_ok-bits-in-Let-clause-ok t c =
 
 pub emit_in-requires-in-Let-2 : goal.emit_in-requires-in-Let-2
 emit_in-requires-in-Let-2 t c =
-    let whole = whole_let _ _ _ _ _ c.in-Let.is c.deref-in-Let.ensures c.deref-in-Let-2.ensures in
-    (search (rules, the_lemmas), (let_body _ _ _ c.args.ports.now (named_in c.args.scope.now) _ whole c.requires.formed c.in_ok-bits-in-Let.ensures.ok
-    (named_in-Inside _ _ ∙ ap (λ (l : List RawBit). l ∷ (named_in c.args.scope.now)) c.deref-in-Let-3.ensures.value), c.requires.shape))
+    let whole = whole_let _ _ _ _ _ c.in-Let.is c.deref-in-Let.ensures c.deref-in-Let-2.ensures in (
+      search (rules, the_lemmas),
+      (
+        let_body _ _ _ c.args.ports.now (named_in c.args.scope.now) _ whole c.requires.formed c.in_ok-bits-in-Let.ensures.ok
+            (named_in-Inside _ _ ∙ ap (λ (l : List RawBit). l ∷ (named_in c.args.scope.now)) c.deref-in-Let-3.ensures.value),
+        c.requires.shape,
+      ),
+    )
