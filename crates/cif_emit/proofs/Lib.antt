@@ -5,4 +5,5 @@ pub mod Shapes
 pub mod CellLaws
 pub mod PieceLaws
 pub mod TermLaws
+pub mod CellMeanings
 pub mod Views

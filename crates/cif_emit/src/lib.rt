@@ -10,6 +10,8 @@ mod names;
 mod pieces;
 mod scope;
 mod terms;
+#[cfg(test)]
+mod tests;
 
 pub use names::{NameMaker, NetNumbers};
 pub use terms::{OperandBits, OperandPair, emit};
