@@ -1,0 +1,9 @@
+pub mod Numbers
+pub mod NewNets
+pub mod Emissions
+pub mod Shapes
+pub mod CellLaws
+pub mod PieceLaws
+pub mod TermLaws
+pub mod CellMeanings
+pub mod Views

@@ -1,0 +1,19 @@
+use Rattle.std.proofs.Common.{◌≡◌, ◌≤◌, ◌∙◌, ℕ, List, length, refl, sym, ap, ◌++◌, subst, arith, if◌then◌else◌}
+use Rattle.cif_defs.specs.declared.raw_module.RawBit.{RawBit}
+use Rattle.cif_emit.proofs.PieceLaws.{begun, some_piece, small_piece, reduced_more, reduced_done}
+use Rattle.cif_emit.proofs.pieces.reduced_pieces.Goals as goal
+
+pub loop-index-init : goal.loop-index-init
+loop-index-init c = begun _ _ _ _ _ c.new-bits.ensures.items (λ v. refl)
+
+pub one_cell-requires-clause-some : goal.one_cell-requires-clause-some
+one_cell-requires-clause-some c = subst (λ (p : List RawBit). 1 ≤ length p) (sym c.piece.ensures.value) (some_piece c.args.a.now c.loop-index.index (omega (arith, c.loop-index-test.true)))
+
+pub one_cell-requires-clause-limit : goal.one_cell-requires-clause-limit
+one_cell-requires-clause-limit c = subst (λ (p : List RawBit). length p ≤ 4096) (sym c.piece.ensures.value) (small_piece c.args.a.now c.loop-index.index)
+
+pub loop-index-preserved : goal.loop-index-preserved
+loop-index-preserved c = reduced_more c.args.op c.args.a.now c.piece.result.now c.loop-index.index c.requires.reduction c.piece.ensures.value c.loop-index.invariant c.in_ok-part.ensures.ok (c.in_ok-extend_from_slice.ensures.items ∙ ap (λ (l : List RawBit). c.loop-index.bits.items ++ l) c.deref.ensures.value)
+
+pub returns-clause-ok : goal.returns-clause-ok
+returns-clause-ok c = reduced_done c.args.op c.args.a.now c.loop-index.index (omega arith) c.loop-index.invariant

@@ -1,0 +1,10 @@
+pub mod Assigned
+pub mod Makers
+pub mod Counting
+pub mod CellForms
+pub mod Emitted
+pub mod Scopes
+pub mod MakerView
+pub mod Handed
+pub mod Pieces
+pub mod Constants
