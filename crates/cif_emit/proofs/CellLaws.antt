@@ -1,5 +1,5 @@
 -- The cells that are appended: what they read, what they drive, and what they say of an assignment.
-use Rattle.std.specs.Prelude.{ℕ, zero, suc, ◌+◌, ◌≤◌, ◌<◌, ◌^◌, ◌≡◌, Bool, true, false, not, ◌&&◌, ◌==◌, nat_lt, List, [], ◌∷◌, ◌++◌, map, length, get_or, Option, Some, None, option_map, if◌then◌else◌, IsTrue, refl}
+use Rattle.std.specs.Prelude.{ℕ, ◌≤◌, ◌<◌, ◌^◌, ◌≡◌, Bool, true, false, not, nat_lt, List, [], ◌∷◌, ◌++◌, length, None, if◌then◌else◌, IsTrue, refl}
 use Rattle.std.specs.List.{AllByRecursion, list_all}
 use Rattle.std.specs.List.Sorted.{IsStrictlySortedBy}
 use Rattle.std.proofs.Common.{arith, ap, sym, ◌∙◌, subst, append-nil}
@@ -7,8 +7,6 @@ use Rattle.std.proofs.lemmas.List.{length-map}
 use Rattle.std.proofs.lemmas.Bool.Decides.{nat_tests}
 use Rattle.cif_defs.specs.Words.{Word, bit, word, operand}
 use Rattle.cif_defs.specs.Meanings.{not_word, reduce_and_word, reduce_or_word, reduce_xor_word, and_word, or_word, xor_word, add_word, mul_word, div_word, lt_word, eq_word, mux_word}
-use Rattle.cif_defs.specs.Kinds.{role_of}
-use Rattle.cif_defs.specs.declared.kinds.Role.TheVariants.{Combinational}
 use Rattle.cif_defs.specs.declared.kinds.Kind.{Kind}
 use Rattle.cif_defs.specs.declared.kinds.Kind.TheVariants.{Mux}
 use Rattle.cif_defs.specs.declared.kinds.Param.TheVariants.{Width}
@@ -19,10 +17,10 @@ use Rattle.cif_defs.specs.declared.raw_module.RawParam.{RawParam}
 use Rattle.cif_defs.specs.declared.raw_module.Connection.{Connection}
 use Rattle.cif_defs.specs.declared.raw_module.RawBit.{RawBit}
 use Rattle.cif_defs.specs.declared.raw_module.RawCell.{RawCell}
-use Rattle.cif_defs.specs.Table.{kind_of, parameters_of, operands_of, outputs_of, row, a_row, b_row, y_row}
+use Rattle.cif_defs.specs.Table.{parameters_of, operands_of, outputs_of, row, a_row, b_row, y_row}
 use Rattle.cif_defs.specs.Cells.{words_by}
 use Rattle.cif_defs.specs.Accepted.{cell_of}
-use Rattle.cif_defs.specs.RawModule.{is_net, nets_in, needed_number, operand_bits, output_bits}
+use Rattle.cif_defs.specs.RawModule.{is_net, needed_number}
 use Rattle.cif_checks.specs.Checks.{first_fault, fault_if, has_value, bad_parameter}
 use Rattle.cif_defs.specs.Order.{IsCellInOrder}
 use Rattle.cif_defs.proofs.WordLaws.{length-word}
@@ -35,11 +33,10 @@ use Rattle.cif_term.specs.declared.ops.Op2.{Op2}
 use Rattle.cif_term.specs.declared.ops.Op2.TheVariants.{And, Or, Xor, Add, Mul, Div, LessUnsigned, LessSigned, Equal}
 use Rattle.cif_term.specs.Formulas.{is_on_numbers, one_width, two_width, one_word, two_word}
 use Rattle.cif_emit.specs.CellForms.{one_kind, two_kind, is_signed, sign_number, number_param, unary_numbers, binary_numbers, connection, plain_cell, unary_cell, binary_cell, choice_cell}
-use Rattle.cif_emit.specs.Assigned.{raw_bit, raw_word, TakesBit, TakesWord, IsMet, words_given}
+use Rattle.cif_emit.specs.Assigned.{raw_bit, raw_word, words_given}
 use Rattle.cif_emit.specs.Emitted.{are_known, IsEmitted}
 use Rattle.cif_emit.proofs.Emissions.{cell_emitted, known_append, known_first, known_second}
-use Rattle.cif_emit.proofs.Shapes.{HasShape, PortFits, shaped_plain, shaped_output, shaped_operands, shaped_means, one_shape, two_shape, choice_shape, operand_limit, unary_params, binary_params}
-use Rattle.cif_emit.proofs.NewNets.{length-nets}
+use Rattle.cif_emit.proofs.Shapes.{PortFits, shaped_plain, shaped_output, shaped_operands, shaped_means, one_shape, two_shape, choice_shape, operand_limit, unary_params, binary_params}
 
 -- ---- lists whose items are known
 

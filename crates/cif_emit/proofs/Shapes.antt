@@ -1,5 +1,5 @@
 -- The kinds of the cells that are appended, and which checks such cells pass.
-use Rattle.std.specs.Prelude.{ℕ, zero, suc, ◌+◌, ◌≤◌, ◌<◌, ◌^◌, ◌≡◌, Bool, true, false, not, ◌&&◌, ◌||◌, ◌==◌, nat_lt, List, [], ◌∷◌, ◌++◌, map, length, get_or, Option, Some, None, option_map, is_some, if◌then◌else◌, unwrap_or, refl}
+use Rattle.std.specs.Prelude.{ℕ, suc, ◌+◌, ◌≤◌, ◌<◌, ◌≡◌, Bool, true, false, not, ◌&&◌, ◌||◌, ◌==◌, nat_lt, List, [], ◌∷◌, ◌++◌, map, length, get_or, Option, Some, None, option_map, is_some, if◌then◌else◌, refl}
 use Rattle.std.specs.List.{AllByRecursion, flat_map, list_all}
 use Rattle.std.proofs.Common.{arith, ap, sym, ◌∙◌, subst, append-nil}
 use Rattle.std.proofs.lemmas.Bool.Decides.{nat_tests}
@@ -25,7 +25,7 @@ use Rattle.cif_emit.specs.Assigned.{raw_word, TakesWord, IsMet, IsMetBy, words_g
 use Rattle.cif_emit.specs.Emitted.{drives, IsPlainCell}
 use Rattle.cif_emit.proofs.NewNets.{length-nets}
 use Rattle.cif_checks.specs.declared.fault.BuildFault.{BuildFault}
-use Rattle.cif_checks.specs.Checks.{◌else_by◌, fault_if, first_fault, first_fault_from, cell_fault, cell_fault_by, known_cell_fault, parameters_fault, slice_fault, is_wide_memory, has_value, bad_parameter, memory_form, row_width, zero_width, too_wide, missing_port, wrong_width, constant_output, is_constant, cell_spot, may_be_empty}
+use Rattle.cif_checks.specs.Checks.{◌else_by◌, fault_if, first_fault, first_fault_from, cell_fault, cell_fault_by, parameters_fault, slice_fault, is_wide_memory, has_value, bad_parameter, memory_form, row_width, zero_width, too_wide, missing_port, wrong_width, constant_output, is_constant, may_be_empty}
 use Rattle.cif_term.specs.declared.ops.Op1.{Op1}
 use Rattle.cif_term.specs.declared.ops.Op1.TheVariants.{Not, ReduceAnd, ReduceOr, ReduceXor}
 use Rattle.cif_term.specs.declared.ops.Op2.{Op2}

@@ -1,21 +1,21 @@
 -- Terms as cells, form by form.
-use Rattle.std.specs.Prelude.{ℕ, zero, suc, ◌+◌, ◌≤◌, ◌<◌, ◌≡◌, max, Bool, true, false, ◌&&◌, List, [], ◌∷◌, ◌++◌, map, length, get_or, slice_get, Option, Some, None, unwrap_or, if◌then◌else◌, IsTrue, refl}
+use Rattle.std.specs.Prelude.{ℕ, zero, suc, ◌+◌, ◌≤◌, ◌≡◌, max, Bool, true, false, ◌&&◌, List, [], ◌∷◌, ◌++◌, map, length, get_or, Option, Some, unwrap_or, if◌then◌else◌, IsTrue, refl}
 use Rattle.std.proofs.Common.{arith, ap, sym, ◌∙◌, subst, length-append}
 use Rattle.std.proofs.lemmas.List.{map-append, length-map}
 use Rattle.cif_defs.specs.Words.{Word, bit, operand}
 use Rattle.cif_defs.specs.declared.raw_module.RawBit.{RawBit}
-use Rattle.cif_defs.specs.declared.raw_module.RawBit.TheVariants.{Net, Zero, One as OneBit, X, Z}
+use Rattle.cif_defs.specs.declared.raw_module.RawBit.TheVariants.{Zero}
 use Rattle.cif_defs.specs.declared.raw_module.RawCell.{RawCell}
 use Rattle.cif_term.specs.declared.ops.Op1.{Op1}
 use Rattle.cif_term.specs.declared.ops.Op2.{Op2}
-use Rattle.cif_term.specs.Formulas.{Formula, Value, Taint, Const, Bound, Pick, Join, One, Two, Choose, Let, value_of, width_of, cost_of, plain_width, picked, one_word, two_word, one_width, two_width, one_cost, two_cost, pieces, is_on_numbers, pick_width, join_width, one_width_option, two_width_option, same_width, choose_width}
+use Rattle.cif_term.specs.Formulas.{Formula, Value, Taint, Const, Bound, Pick, Join, One, Two, Choose, Let, value_of, width_of, cost_of, plain_width, picked, one_word, two_word, one_width, two_width, one_cost, two_cost, pieces, is_on_numbers, same_width}
 use Rattle.cif_term.proofs.Lengths.{length-value, width_range, pick_some, join_some, one_some, two_some, same_some, choose_some, let_some}
 use Rattle.cif_emit.specs.Assigned.{raw_bit, raw_word, raw_words}
 use Rattle.cif_emit.specs.Constants.{constant_bits, picked_bits}
 use Rattle.cif_emit.specs.Makers.{Maker}
 use Rattle.cif_emit.specs.Emitted.{is_known, are_known, IsEmitted, IsEmittedIn, IsValue, value_bits, taint_bits, all_bits, widths}
 use Rattle.cif_emit.specs.declared.terms.OperandPair.{OperandPair}
-use Rattle.cif_emit.proofs.Emissions.{known_append, known_first, known_second, more_known, nothing_emitted, then_emitted, weaker, shown_emitted}
+use Rattle.cif_emit.proofs.Emissions.{known_append, known_first, known_second, nothing_emitted, then_emitted, weaker, shown_emitted}
 
 -- ---- bits and words
 

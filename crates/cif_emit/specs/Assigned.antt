@@ -7,7 +7,6 @@ use Rattle.cif_defs.specs.RawModule.{port_bits}
 use Rattle.cif_defs.specs.Cells.{meaning}
 use Rattle.cif_defs.specs.Accepted.{cell_of}
 use Rattle.cif_defs.specs.declared.kinds.Kind.{Kind}
-use Rattle.cif_defs.specs.declared.kinds.PortRow.{PortRow}
 use Rattle.cif_defs.specs.declared.raw_module.RawBit.{RawBit}
 use Rattle.cif_defs.specs.declared.raw_module.RawBit.TheVariants.{Net, Zero, One, X, Z}
 use Rattle.cif_defs.specs.declared.raw_module.RawCell.{RawCell}

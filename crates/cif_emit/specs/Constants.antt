@@ -1,5 +1,5 @@
 -- Bits that cost no cell: constants, and bits picked from others.
-use Rattle.std.specs.Prelude.{ℕ, Bool, List, map, get_or, if◌then◌else◌}
+use Rattle.std.specs.Prelude.{ℕ, List, map, get_or, if◌then◌else◌}
 use Rattle.cif_defs.specs.Words.{Word}
 use Rattle.cif_defs.specs.declared.raw_module.RawBit.{RawBit}
 use Rattle.cif_defs.specs.declared.raw_module.RawBit.TheVariants.{Zero, One}

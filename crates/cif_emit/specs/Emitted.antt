@@ -1,5 +1,5 @@
 -- Cells that were appended, and bits that stand for a word under every assignment that meets them.
-use Rattle.std.specs.Prelude.{ℕ, ◌+◌, ◌≤◌, ◌≡◌, Bool, true, false, List, [], ◌∷◌, ◌++◌, map, length, Option, Some, None, option_map}
+use Rattle.std.specs.Prelude.{ℕ, ◌+◌, ◌≤◌, ◌≡◌, Bool, true, false, List, [], ◌∷◌, ◌++◌, map, length, Some, None, option_map}
 use Rattle.std.specs.List.{AllByRecursion, flat_map, list_all, range_with_len}
 use Rattle.cif_defs.specs.Words.{Word}
 use Rattle.cif_defs.specs.Kinds.{role_of}

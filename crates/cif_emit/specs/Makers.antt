@@ -1,6 +1,5 @@
 -- Where new net numbers and new names of cells stand.
-use Rattle.std.specs.Prelude.{ℕ, ◌+◌, ◌<◌, ◌≤◌, ◌≡◌, false, List, [], ◌∷◌, ◌++◌, length, slice_index, codes, Option, None, unwrap_or, true}
-use Rattle.std.specs.List.Sorted.{IsStrictlyIncreasing}
+use Rattle.std.specs.Prelude.{ℕ, ◌+◌, ◌≤◌, ◌≡◌, false, List, [], ◌∷◌, ◌++◌, codes, Option, unwrap_or}
 use Rattle.std.specs.Fmt.{decimal}
 use Rattle.cif_checks.specs.Checks.{has_number}
 

@@ -1,4 +1,4 @@
-use Rattle.std.proofs.Common.{◌≡◌, ◌∙◌, ap, length}
+use Rattle.std.proofs.Common.{◌∙◌, ap, length}
 use Rattle.std.proofs.lemmas.Result.{IfOk-weaker}
 use Rattle.cif_emit.specs.CellForms.{binary_numbers}
 use Rattle.cif_emit.proofs.CellLaws.{two_made, two_of}

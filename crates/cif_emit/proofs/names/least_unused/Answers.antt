@@ -1,4 +1,4 @@
-use Rattle.std.proofs.Common.{◌<◌, ◌≤◌, length, get_or, arith}
+use Rattle.std.proofs.Common.{arith}
 use Rattle.cif_emit.proofs.Numbers.{not_used}
 use Rattle.cif_emit.proofs.names.least_unused.Goals as goal
 

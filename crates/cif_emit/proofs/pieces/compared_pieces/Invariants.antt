@@ -1,7 +1,5 @@
-use Rattle.std.proofs.Common.{◌≡◌, length, if◌then◌else◌, ◌++◌}
-use Rattle.cif_defs.specs.Words.{bit}
-use Rattle.cif_term.specs.declared.ops.Op1.TheVariants.{Not, ReduceAnd}
-use Rattle.cif_term.specs.Formulas.{one_word, two_word}
+use Rattle.std.proofs.Common.{◌≡◌, ◌++◌}
+use Rattle.cif_term.specs.declared.ops.Op1.TheVariants.{ReduceAnd}
 use Rattle.cif_emit.specs.Assigned.{raw_word}
 use Rattle.cif_emit.specs.Emitted.{IsEmitted}
 use Rattle.cif_emit.specs.Pieces.{are_same, reduced}

@@ -1,4 +1,4 @@
-use Rattle.std.proofs.Common.{◌≡◌, ◌≤◌, ◌∙◌, ℕ, List, length, refl, sym, ap, ◌++◌, subst, arith, if◌then◌else◌}
+use Rattle.std.proofs.Common.{◌≤◌, ◌∙◌, List, length, refl, sym, ap, ◌++◌, subst, arith}
 use Rattle.cif_defs.specs.declared.raw_module.RawBit.{RawBit}
 use Rattle.cif_emit.proofs.PieceLaws.{begun, some_piece, small_piece, complement_more, complement_done}
 use Rattle.cif_emit.proofs.pieces.complement.Goals as goal

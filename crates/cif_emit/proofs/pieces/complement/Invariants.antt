@@ -1,10 +1,8 @@
-use Rattle.std.proofs.Common.{◌≡◌, length, if◌then◌else◌, ◌++◌}
-use Rattle.cif_defs.specs.Words.{bit}
-use Rattle.cif_term.specs.declared.ops.Op1.TheVariants.{Not, ReduceAnd}
-use Rattle.cif_term.specs.Formulas.{one_word, two_word}
+use Rattle.std.proofs.Common.{◌≡◌, length}
+use Rattle.cif_term.specs.declared.ops.Op1.TheVariants.{Not}
+use Rattle.cif_term.specs.Formulas.{one_word}
 use Rattle.cif_emit.specs.Assigned.{raw_word}
 use Rattle.cif_emit.specs.Emitted.{IsEmitted}
-use Rattle.cif_emit.specs.Pieces.{are_same, reduced}
 use Rattle.cif_emit.proofs.PieceLaws.{front}
 use Rattle.cif_emit.proofs.pieces.complement.Given as goal
 

@@ -1,4 +1,4 @@
-use Rattle.cif_emit.proofs.NewNets.{no_nets, one_more_net}
+use Rattle.cif_emit.proofs.NewNets.{one_more_net}
 use Rattle.cif_emit.proofs.names.NameMaker.nets.Goals as goal
 
 pub loop-preserved : goal.loop-preserved

@@ -1,5 +1,4 @@
 use Rattle.std.proofs.Common.{◌≡◌, ◌≢◌, ◌-◌, ◌∷◌, ℕ, zero, suc, List, slice_get, MatchOption, None, Some, ap, ◌∙◌, sym, subst, arith, refl}
-use Rattle.cif_defs.specs.declared.raw_module.RawBit.{RawBit}
 use Rattle.cif_emit.specs.Scopes.{named_in}
 use Rattle.cif_emit.proofs.Views.{named_in-Inside}
 use Rattle.cif_emit.proofs.scope.Scope.+get.Goals as goal
