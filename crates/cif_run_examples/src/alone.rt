@@ -52,10 +52,7 @@ fn given(rt: &impl Abort, alloc: Global, row: &Row) -> Result<(Case, Script), Fa
     )?;
     let stimulus = read_stimulus(alloc, &netlist, stimulus.as_bytes())?;
     let script = format!(in alloc; "cellift-sessions 1\n{}", row.script)?;
-    let script = read_sessions(alloc, &netlist, script.as_bytes()).expect(
-        rt,
-        "the script is refused",
-    );
+    let script = read_sessions(alloc, &netlist, script.as_bytes())?;
     let case = Case::new(alloc, netlist, levels, stimulus)?;
     Ok((case, script))
 }
