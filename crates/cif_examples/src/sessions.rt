@@ -324,27 +324,3 @@ fn counter_session_and_window_waits(rt: HostRuntime) -> Result<(), Fail> {
     }
     Ok(())
 }
-
-/// The example `script-size`, as it is told: 2,048 lines show a wire of 65,536 bits.
-#[test]
-fn script_size(rt: HostRuntime) -> Result<(), Fail> {
-    let alloc = rt.alloc();
-    let mut net = String::from_str(alloc, r#"{"modules":{"m":{"netnames":{"w":{"bits":["1""#)?;
-    for _bit in 1..65_536 {
-        net.push_str(r#","1""#)?;
-    }
-    net.push_str("]}}}}}")?;
-    let mut script = String::from_str(alloc, "cellift-sessions 1\nsession s\n")?;
-    for _line in 0..2048 {
-        script.push_str("show w\n")?;
-    }
-    let case = Case {
-        name: "script-size",
-        net: &net,
-        stim: b"cellift-stimulus 1\ncycles 1\n",
-        script: script.as_bytes(),
-        err: "refused 65: script too large\n",
-        ..REFUSED
-    };
-    assert_cases(&rt, alloc, &[case])
-}
