@@ -18,7 +18,7 @@ use Rattle.cif_defs.specs.declared.raw_module.RawBit.TheVariants.{Net, Zero, One
 use Rattle.cif_defs.specs.declared.raw_module.RawPort.{RawPort}
 use Rattle.cif_defs.specs.declared.raw_module.RawCell.{RawCell}
 use Rattle.cif_defs.specs.declared.raw_module.Raw.{Raw}
-use Rattle.cif_checks.specs.Checks.{◌else_by◌, fault_if, first_fault, counts_fault, ports_fault, cells_fault, cell_fault, cell_fault_by, known_cell_fault, parameters_fault, memory_form, zero_width, too_wide, missing_port, wrong_width, constant_output, has_digit, mask_digits, data_fault, is_same_bit, has_bad_form, number_or_0, memory_bits_fault, drivers_fault, driven_numbers, is_twice, clocks_fault, uses_fault, clock_fault, clock_uses, clock_uses_by, uses_from, ClockUse, is_clock_input, is_only_bit, reads_fault, inits_fault, build_fault, IsAccepted}
+use Rattle.cif_checks.specs.Checks.{◌else_by◌, fault_if, first_fault, counts_fault, ports_fault, cells_fault, cell_fault, cell_fault_by, known_cell_fault, parameters_fault, memory_form, zero_width, too_wide, missing_port, wrong_width, constant_output, has_digit, mask_digits, data_fault, is_same_bit, has_bad_form, number_or_0, memory_bits_fault, drivers_fault, driven_numbers, is_twice, clocks_fault, uses_fault, clock_fault, clock_uses, clock_uses_by, uses_from, ClockUse, is_clock_input, is_only_bit, reads_fault, inits_fault, build_fault, form_fault, IsAccepted, IsWellFormed}
 use Rattle.cif_checks.specs.declared.fault.BuildFault.{BuildFault}
 use Rattle.cif_checks.specs.declared.fault.BuildFault.TheVariants.{NoClockInput, TwoClocks}
 use Rattle.cif_nets.proofs.Places.{At, Has, At-has, Has-any, Has-filter, Has-at}
@@ -44,21 +44,35 @@ each_passes check (y ∷ ys) x h (inl e) = ap check (sym e) ∙ first_passes (ch
 each_passes check (y ∷ ys) x h (inr k) = each_passes check ys x (next_passes (check y) (first_fault check ys) h) k
 
 pub record Passed (raw : Raw) : Type 0 where
-  pub cells : cells_fault raw ≡ None
+  pub cells : first_fault cell_fault raw.cells ≡ None
   pub drivers : drivers_fault raw ≡ None
   pub clocks : clocks_fault raw ≡ None
 
 pub passed : (raw : Raw) → IsAccepted raw → Passed raw
-unfolding build_fault
+unfolding build_fault cells_fault
 passed raw h =
     let six = first_passes (counts_fault raw else_by ports_fault raw else_by cells_fault raw else_by drivers_fault raw else_by clocks_fault raw else_by reads_fault raw) (inits_fault raw) h in
     let five = first_passes (counts_fault raw else_by ports_fault raw else_by cells_fault raw else_by drivers_fault raw else_by clocks_fault raw) (reads_fault raw) six in
     let four = first_passes (counts_fault raw else_by ports_fault raw else_by cells_fault raw else_by drivers_fault raw) (clocks_fault raw) five in
     let three = first_passes (counts_fault raw else_by ports_fault raw else_by cells_fault raw) (drivers_fault raw) four in
     record {
-      cells = next_passes (counts_fault raw else_by ports_fault raw) (cells_fault raw) three;
+      cells = first_passes (first_fault cell_fault raw.cells) (memory_bits_fault raw) (next_passes (counts_fault raw else_by ports_fault raw) (cells_fault raw) three);
       drivers = next_passes (counts_fault raw else_by ports_fault raw else_by cells_fault raw) (drivers_fault raw) four;
       clocks = next_passes (counts_fault raw else_by ports_fault raw else_by cells_fault raw else_by drivers_fault raw) (clocks_fault raw) five;
+    }
+
+pub passes_form : (raw : Raw) → IsWellFormed raw → Passed raw
+unfolding form_fault
+passes_form raw h =
+    let two = ports_fault raw else_by first_fault cell_fault raw.cells in
+    let three = two else_by drivers_fault raw in
+    let four = three else_by clocks_fault raw in
+    let all_four = first_passes four (reads_fault raw) (first_passes (four else_by reads_fault raw) (inits_fault raw) h) in
+    let all_three = first_passes three (clocks_fault raw) all_four in
+    record {
+      cells = next_passes (ports_fault raw) (first_fault cell_fault raw.cells) (first_passes two (drivers_fault raw) all_three);
+      drivers = next_passes two (drivers_fault raw) all_three;
+      clocks = next_passes three (clocks_fault raw) all_four;
     }
 
 -- ---- a net number is driven once
@@ -120,21 +134,21 @@ is_formed cell h =
       address_limit = ltb-false 32 (number_or_0 cell Abits) three.1;
     }
 
-pub word_width_positive : (raw : Raw) (c : ℕ) (cell : RawCell) (k : Kind) → cells_fault raw ≡ None → CellIs raw c cell k → role_of k ≡ MemoryBlock → 0 < word_width cell
-unfolding cells_fault cell_fault
+pub word_width_positive : (raw : Raw) (c : ℕ) (cell : RawCell) (k : Kind) → first_fault cell_fault raw.cells ≡ None → CellIs raw c cell k → role_of k ≡ MemoryBlock → 0 < word_width cell
+unfolding cell_fault
 word_width_positive raw c cell k h is e =
-    let here : cell_fault_by cell (kind_of cell.kind) ≡ None = each_passes cell_fault raw.cells cell (first_passes (first_fault cell_fault raw.cells) (memory_bits_fault raw) h) (Has-at raw.cells c cell is.at_cell) in
+    let here : cell_fault_by cell (kind_of cell.kind) ≡ None = each_passes cell_fault raw.cells cell h (Has-at raw.cells c cell is.at_cell) in
     let form : has_bad_form cell ≡ false = known_memory cell k e (rw is.is_kind at here) in
     let ne : word_width cell ≢ 0 = (is_formed cell form).width in
     omega arith
 
 -- ---- the clock is an input
 
-abbrev is_first : ℕ → List RawBit → Bool
+abbrev pub is_first : ℕ → List RawBit → Bool
 is_first x (Net y ∷ bs) = y == x
 is_first x _ = false
 
-clock_is_first : (raw : Raw) (x : ℕ) → is_clock raw x ≡ is_first x (all_clock_bits raw)
+pub clock_is_first : (raw : Raw) (x : ℕ) → is_clock raw x ≡ is_first x (all_clock_bits raw)
 clock_is_first raw x = refl
 
 -- what the clock bits of the uses are

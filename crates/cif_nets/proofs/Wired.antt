@@ -74,7 +74,7 @@ outputs_seen ns cell k p i x b =
 output_seen : (raw : Raw) (c p i x : ℕ) (cell : RawCell) (k : Kind) → CellIs raw c cell k → OutputBit cell k p i x → output_at (cell_at (netlist_of raw) c) p i ≡ Some (place_of (net_numbers raw) x)
 output_seen raw c p i x cell k is b = ap (λ (d : Cell). output_at d p i) (cell_is raw c cell k is) ∙ outputs_seen (net_numbers raw) cell k p i x b
 
-at_or_past : {A : Type 0} (xs : List A) (i : ℕ) → ((x : A) × At xs i x) ⊎ (length xs ≤ i)
+pub at_or_past : {A : Type 0} (xs : List A) (i : ℕ) → ((x : A) × At xs i x) ⊎ (length xs ≤ i)
 at_or_past [] i = inr (omega arith)
 at_or_past (x ∷ xs) zero = inl (x, refl)
 at_or_past (x ∷ xs) (suc i) = elim (at_or_past xs i) [ inl a ↦ inl (a.0, a.1) | inr l ↦ inr (omega arith) ]
@@ -143,11 +143,11 @@ pub memory_kind : (k : Kind) → role_of k ≡ MemoryBlock → k ≡ Mem
 memory_kind Mem e = refl
 memory_kind _ e = absurd (cc)
 
-first_given : (o : Option ℕ) (w : ℕ) (rest : List (Param × ℕ)) → o ≡ Some w → number_in (cons_option (option_map (λ x. (Width, x)) o) rest) Width ≡ w
+pub first_given : (o : Option ℕ) (w : ℕ) (rest : List (Param × ℕ)) → o ≡ Some w → number_in (cons_option (option_map (λ x. (Width, x)) o) rest) Width ≡ w
 first_given None w rest e = absurd (cc)
 first_given (Some v) w rest e = (cc)
 
-width_by_given : (ns : List ℕ) (cell : RawCell) (o : Option ℕ) → number_given cell Width ≡ o → 0 < unwrap_or o 0 → width (cell_by ns cell (Some Mem)) ≡ unwrap_or o 0
+pub width_by_given : (ns : List ℕ) (cell : RawCell) (o : Option ℕ) → number_given cell Width ≡ o → 0 < unwrap_or o 0 → width (cell_by ns cell (Some Mem)) ≡ unwrap_or o 0
 unfolding parameters_of
 width_by_given ns cell None e h = absurd (omega arith)
 width_by_given ns cell (Some w) e h = first_given (number_given cell Width) w (numbers_of cell (Size ∷ Offset ∷ Abits ∷ RdPorts ∷ WrPorts ∷ [])) e
@@ -171,13 +171,17 @@ by_clock : (raw : Raw) (x : ℕ) (d : Driver) (b : Bool) → (Clock ≡ d → �
 by_clock raw x d true apart h = absurd (apart h)
 by_clock raw x d false apart h = by_option raw x d (driver_in (driven raw) x) apart refl h
 
+-- what drives a number, but for the clock, stands at a place that drives it
+pub has_driver : (raw : Raw) (x : ℕ) (d : Driver) → (Clock ≡ d → ⊥) → driver_of_number raw x ≡ d → Has (driven raw) (x, d)
+has_driver raw x d apart h = by_clock raw x d (is_clock raw x) apart h
+
 driver_is : (raw : Raw) (b : ℕ) (d : Driver) → (Clock ≡ d → ⊥) → driver_of (netlist_of raw) b ≡ d → Drives raw b d
 unfolding netlist_of
 driver_is raw b d apart h =
     let found = At-from_map (driver_of_number raw) (net_numbers raw) b d Clock apart h in
-    record { number = found.0; at = found.1; has = by_clock raw found.0 d (is_clock raw found.0) apart found.2 }
+    record { number = found.0; at = found.1; has = has_driver raw found.0 d apart found.2 }
 
-no_clock : (raw : Raw) (x : ℕ) (d : Driver) (b : Bool) → Passed raw → Has (net_numbers raw) x → ((p : ℕ) → d ≡ Input p 0 → ⊥) → Has (driven raw) (x, d) → is_clock raw x ≡ b → b ≡ false
+pub no_clock : (raw : Raw) (x : ℕ) (d : Driver) (b : Bool) → Passed raw → Has (net_numbers raw) x → ((p : ℕ) → d ≡ Input p 0 → ⊥) → Has (driven raw) (x, d) → is_clock raw x ≡ b → b ≡ false
 no_clock raw x d false s n apart h e = refl
 no_clock raw x d true s n apart h e =
     let input = clock_is_input raw x e s.clocks in
@@ -244,7 +248,7 @@ register_place_is raw b c i h =
 read_role_is : (raw : Raw) (b c q i : ℕ) → driver_of (netlist_of raw) b ≡ Read c q i → role_at (netlist_of raw) c ≡ MemoryBlock
 read_role_is raw b c q i h = (let o = (reads_of_driver raw b c q i h).2 in role_is raw c o.cell o.kind o.is ∙ o.role)
 
-same_place : (q i w n : ℕ) → q ≡ n / w → i ≡ n % w → q * w + i ≡ n
+pub same_place : (q i w n : ℕ) → q ≡ n / w → i ≡ n % w → q * w + i ≡ n
 same_place q i w n p r = rw (p, r) (div-add-mod' n w)
 
 read_place_is : (raw : Raw) (b c q i : ℕ) → Passed raw → driver_of (netlist_of raw) b ≡ Read c q i → (i < width (cell_at (netlist_of raw) c)) × (output_at (cell_at (netlist_of raw) c) 0 (q * width (cell_at (netlist_of raw) c) + i) ≡ Some b)
@@ -299,8 +303,8 @@ read_drives raw c q i b s e l h =
       at_bit = bit_kept raw c j o.number o.cell o.kind o.is (ap is_kept role) o.bit;
     }))
 
-pub wired : (raw : Raw) → IsAccepted raw → IsWired (netlist_of raw)
-wired raw h = (let s = passed raw h in record {
+pub wired_if_passed : (raw : Raw) → Passed raw → IsWired (netlist_of raw)
+wired_if_passed raw s = record {
   output_role = output_role_is raw;
   output_place = output_place_is raw;
   register_role = register_role_is raw;
@@ -311,4 +315,7 @@ wired raw h = (let s = passed raw h in record {
   by_output = λ c p i b e f. output_drives raw c p i b s e f;
   by_register = λ c i b e f. register_drives raw c i b s e f;
   by_read = λ c q i b e l f. read_drives raw c q i b s e l f;
-})
+}
+
+pub wired : (raw : Raw) → IsAccepted raw → IsWired (netlist_of raw)
+wired raw h = wired_if_passed raw (passed raw h)

@@ -1,6 +1,6 @@
 -- The settled bits are the one assignment in which each net bit shows what its driver gives, so any order of work that ends
 -- there is right.
-use Rattle.std.specs.Prelude.{ℕ, zero, suc, ◌≤◌, ◌≡◌, Bool, true, false, List, length, refl}
+use Rattle.std.specs.Prelude.{ℕ, ◌≤◌, ◌≡◌, Bool, true, false, List, length, refl}
 use Rattle.std.proofs.Common.{ap, sym, ◌∙◌, cond}
 use Rattle.cif_defs.specs.Words.{bit}
 use Rattle.cif_defs.specs.Evaluation.{is_of_cell}
@@ -8,17 +8,11 @@ use Rattle.cif_defs.specs.Loop.{IsLevelled}
 use Rattle.cif_defs.specs.Netlist.{IsWired, Netlist, driver_of}
 use Rattle.cif_defs.specs.Run.{value_in}
 use Rattle.cif_defs.specs.TaintRun.{settled_taint}
-use Rattle.cif_defs.proofs.Levels.{IsSettled, given_at_0, rank_of, values_settled}
+use Rattle.cif_defs.proofs.Levels.{given_at_0, rank_of, unique, values_settled}
 use Rattle.cif_defs.proofs.Orders.{place_in, rank_bound, ranked_from_levels}
 use Rattle.cif_defs.proofs.TaintSettles.{taint_at_0, taints_settled}
 use Rattle.cif_shown.specs.Shown.{AreClosed, Given, SameAtOperands, Shows, taint_given, value_given}
 use Rattle.cif_shown.proofs.ByReads.{taint_by_operands, value_by_operands}
-
--- an assignment that is what is given under it is final, rank by rank
-unique : (n : Netlist) (r : ℕ → ℕ) (give : (ℕ → Bool) → ℕ → Bool) (final v : ℕ → Bool) → IsSettled n r give final → ((b : ℕ) (x y : ℕ → Bool) → rank_of n r b ≤ 0 → give x b ≡ give y b) → ((b : ℕ) → v b ≡ give v b)
-    → (d b : ℕ) → rank_of n r b ≤ d → v b ≡ final b
-unique n r give final v h base own zero b l = own b ∙ base b v final l ∙ sym (h.kept b)
-unique n r give final v h base own (suc d) b l = own b ∙ h.same d b v final l (λ x k. unique n r give final v h base own d x k) ∙ sym (h.kept b)
 
 value_base : (n : Netlist) (g : Given) (r : ℕ → ℕ) (b : ℕ) (x y : ℕ → Bool) → rank_of n r b ≤ 0 → value_given n g x b ≡ value_given n g y b
 value_base n g r b x y l = sym (given_at_0 n g.stored g.input r x (driver_of n b) l) ∙ given_at_0 n g.stored g.input r y (driver_of n b) l
