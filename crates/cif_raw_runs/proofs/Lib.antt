@@ -1,0 +1,12 @@
+pub mod RankLaws
+pub mod Anywhere
+pub mod Numbers
+pub mod Drivers
+pub mod GivenLaws
+pub mod OperandWords
+pub mod Values
+pub mod Taints
+pub mod Steps
+pub mod MetLaws
+pub mod Lengths
+pub mod ClockAlone

@@ -1,0 +1,4 @@
+pub mod Assigned
+pub mod Places
+pub mod Ranks
+pub mod Given

@@ -1,0 +1,3 @@
+pub mod MemoryFormulas
+pub mod MemoryTaints
+pub mod MemoryTermView
