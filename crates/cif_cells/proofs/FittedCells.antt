@@ -21,7 +21,7 @@ use Rattle.cif_defs.specs.declared.kinds.PortRow.{PortRow}
 use Rattle.cif_defs.specs.declared.raw_module.RawBit.{RawBit}
 use Rattle.cif_defs.specs.declared.raw_module.RawCell.{RawCell}
 use Rattle.cif_defs.specs.declared.raw_module.Raw.{Raw}
-use Rattle.cif_checks.specs.Checks.{◌else_by◌, first_fault, cells_fault, cell_fault, cell_fault_by, known_cell_fault, parameters_fault, slice_fault, memory_form, zero_width, too_wide, missing_port, wrong_width, constant_output, is_wide_memory, may_be_empty, number_or_0, memory_bits_fault, IsAccepted}
+use Rattle.cif_checks.specs.Checks.{◌else_by◌, first_fault, cell_fault, cell_fault_by, known_cell_fault, parameters_fault, slice_fault, memory_form, zero_width, too_wide, missing_port, wrong_width, constant_output, is_wide_memory, may_be_empty, number_or_0, IsAccepted}
 use Rattle.cif_checks.specs.Checks.{row_width as given_width}
 use Rattle.cif_cells.specs.NetlistView.{AreFitted}
 use Rattle.cif_checks.specs.declared.fault.BuildFault.{BuildFault}
@@ -241,14 +241,10 @@ each_cell P ns [] law h i l = absurd (omega arith)
 each_cell P ns (cell ∷ cells) law h zero l = law cell (first_passes (cell_fault cell) (first_fault cell_fault cells) h)
 each_cell P ns (cell ∷ cells) law h (suc i) l = each_cell P ns cells law (next_passes (cell_fault cell) (first_fault cell_fault cells) h) i (omega arith)
 
-pub cells_pass : (raw : Raw) → cells_fault raw ≡ None → first_fault cell_fault raw.cells ≡ None
-unfolding cells_fault
-cells_pass raw h = first_passes (first_fault cell_fault raw.cells) (memory_bits_fault raw) h
-
 -- the widths of the table of kinds
 pub fitted : (raw : Raw) → IsAccepted raw → (i : ℕ) → i < length (netlist_of raw).cells → IsFitted (cell_at (netlist_of raw) i)
 unfolding netlist_of
-fitted raw h i l = each_cell IsFitted (net_numbers raw) raw.cells (cell_fitted (net_numbers raw)) (cells_pass raw (passed raw h).cells) i l
+fitted raw h i l = each_cell IsFitted (net_numbers raw) raw.cells (cell_fitted (net_numbers raw)) (passed raw h).cells i l
 
 -- the same of a list that holds the cells
 pub all_fitted : (raw : Raw) (cells : List Cell) → cells ≡ (netlist_of raw).cells → IsAccepted raw → AreFitted cells
@@ -286,7 +282,7 @@ cell_narrow ns cell h = narrow_by ns cell (kind_of cell.kind) h
 
 narrow_at : (raw : Raw) → IsAccepted raw → (i : ℕ) → i < length (netlist_of raw).cells → IsNarrow (cell_at (netlist_of raw) i)
 unfolding netlist_of
-narrow_at raw h i l = each_cell IsNarrow (net_numbers raw) raw.cells (cell_narrow (net_numbers raw)) (cells_pass raw (passed raw h).cells) i l
+narrow_at raw h i l = each_cell IsNarrow (net_numbers raw) raw.cells (cell_narrow (net_numbers raw)) (passed raw h).cells i l
 
 pub narrow_operand : (raw : Raw) → IsAccepted raw → (i p : ℕ) → i < length (netlist_of raw).cells → length (get_or (cell_at (netlist_of raw) i).operands p []) ≤ 65536
 narrow_operand raw h i p l = (narrow_at raw h i l p).0

@@ -22,7 +22,7 @@ use Rattle.cif_checks.specs.Checks.{known_cell_fault, cell_fault, cell_fault_by,
 use Rattle.cif_cells.specs.NetlistView.{HaveMemoryNumbers}
 use Rattle.cif_kinds.specs.StateCells.{HasMemoryPorts, HasMemoryNumbers}
 use Rattle.cif_checks.proofs.CellChecks.{memory_narrow}
-use Rattle.cif_cells.proofs.FittedCells.{number_kept, cell_passes, rows_below, each_cell, cells_pass}
+use Rattle.cif_cells.proofs.FittedCells.{number_kept, cell_passes, rows_below, each_cell}
 use Rattle.cif_kinds.proofs.OperandWidths.{length-at, operand_width}
 use Rattle.cif_nets.proofs.Passed.{IsFormed, is_formed, known_memory, passed}
 use Rattle.cif_checks.proofs.RawLaws.{number_small}
@@ -116,7 +116,7 @@ cell_numbers ns cell h = numbers_by ns cell (kind_of cell.kind) h
 
 numbers_at : (raw : Raw) → IsAccepted raw → (i : ℕ) → i < length (netlist_of raw).cells → HasNumbers (cell_at (netlist_of raw) i)
 unfolding netlist_of
-numbers_at raw h i l = each_cell HasNumbers (net_numbers raw) raw.cells (cell_numbers (net_numbers raw)) (cells_pass raw (passed raw h).cells) i l
+numbers_at raw h i l = each_cell HasNumbers (net_numbers raw) raw.cells (cell_numbers (net_numbers raw)) (passed raw h).cells i l
 
 -- a memory of an accepted module
 pub memory_numbers : (raw : Raw) → IsAccepted raw → (i : ℕ) → i < length (netlist_of raw).cells → role_at (netlist_of raw) i ≡ MemoryBlock → HasMemoryNumbers (cell_at (netlist_of raw) i)

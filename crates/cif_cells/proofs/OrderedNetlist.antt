@@ -18,7 +18,6 @@ use Rattle.cif_defs.specs.declared.raw_module.RawPort.{RawPort}
 use Rattle.cif_defs.specs.declared.raw_module.Raw.{Raw}
 use Rattle.cif_checks.specs.Checks.{IsAccepted, cell_fault, cell_fault_by, first_fault}
 use Rattle.cif_nets.proofs.Passed.{first_passes, next_passes, passed}
-use Rattle.cif_cells.proofs.FittedCells.{cells_pass}
 
 -- ---- cells
 
@@ -44,7 +43,7 @@ names_kept ns (cell ∷ cells) h =
 pub cells_in_order : (raw : Raw) (cells : List Cell) → cells ≡ (netlist_of raw).cells → IsAccepted raw → IsInOrder raw → AreCellsInOrder cells
 unfolding netlist_of
 cells_in_order raw cells e h o =
-    let names : names_of cells ≡ cell_names raw.cells = ap names_of e ∙ names_kept (net_numbers raw) raw.cells (cells_pass raw (passed raw h).cells) in
+    let names : names_of cells ≡ cell_names raw.cells = ap names_of e ∙ names_kept (net_numbers raw) raw.cells (passed raw h).cells in
     subst AreInOrder (sym names) o.cells
 
 -- ---- ports

@@ -1,8 +1,7 @@
 -- How many bits cells store.
-use Rattle.std.specs.Prelude.{ℕ, zero, suc, ◌+◌, ◌*◌, ◌<◌, ◌≤◌, ◌≡◌, ◌⊎◌, nat_lt, Bool, true, false, not, ◌&&◌, List, [], ◌∷◌, length, map, filter, get_or, sum, unwrap_or, option_map, Option, Some, None, refl}
+use Rattle.std.specs.Prelude.{ℕ, zero, suc, ◌+◌, ◌*◌, ◌<◌, ◌≤◌, ◌≡◌, ◌⊎◌, Bool, true, false, not, ◌&&◌, List, [], ◌∷◌, length, map, filter, get_or, sum, unwrap_or, option_map, Option, Some, None, refl}
 use Rattle.std.specs.List.{cons_option, filter_map, sum_by}
 use Rattle.std.proofs.Common.{arith, rules, sym, ap, ◌∙◌, cond, inl, inr, lit≤}
-use Rattle.std.proofs.lemmas.Bool.{ltb-false}
 use Rattle.std.proofs.lemmas.List.{length-map}
 use Rattle.std.proofs.lemmas.List.Sums.{sum_by-cons, sum-map}
 use denote.Enum.Bare.{same_true}
@@ -20,11 +19,11 @@ use Rattle.cif_defs.specs.declared.kinds.Param.{Param}
 use Rattle.cif_defs.specs.declared.kinds.Param.TheVariants.{Width, Size}
 use Rattle.cif_defs.specs.declared.raw_module.RawCell.{RawCell}
 use Rattle.cif_defs.specs.declared.raw_module.Raw.{Raw}
-use Rattle.cif_checks.specs.Checks.{IsAccepted, cells_fault, cell_fault, first_fault, memory_bits_fault, memory_limit, memory_size, memory_size_by, number_or_0}
-use Rattle.cif_checks.specs.declared.fault.BuildFault.TheVariants.{TooManyBits}
+use Rattle.cif_checks.specs.Checks.{IsAccepted, cell_fault, first_fault, memory_size, memory_size_by, number_or_0}
 use Rattle.std.proofs.Math.Nat.{mul-le-mul_left, mul-le-mul_right}
-use Rattle.cif_cells.proofs.FittedCells.{cell_fitted, cells_pass}
-use Rattle.cif_nets.proofs.Passed.{first_passes, next_passes, passed, test_passes}
+use Rattle.cif_cells.proofs.CountLaws.{accepted_apart}
+use Rattle.cif_cells.proofs.FittedCells.{cell_fitted}
+use Rattle.cif_nets.proofs.Passed.{first_passes, next_passes, passed}
 use Rattle.cif_kinds.proofs.RegisterCells.{register_width_fits}
 use Rattle.cif_defs.specs.Kinds.{is_register}
 
@@ -115,11 +114,9 @@ each_le ns (c ∷ cs) h m (suc i) l =
     let b : sum_by memory_size (c ∷ cs) ≡ memory_size c + sum_by memory_size cs = sum_by-cons memory_size c cs in
     each_le ns cs (next_passes (cell_fault c) (first_fault cell_fault cs) h) (omega arith) i (omega arith)
 
-memory_small : (raw : Raw) → cells_fault raw ≡ None → sum_by memory_size raw.cells ≤ 16777216
-unfolding cells_fault
+memory_small : (raw : Raw) → IsAccepted raw → sum_by memory_size raw.cells ≤ 16777216
 memory_small raw h =
-    let none : memory_bits_fault raw ≡ None = next_passes (first_fault cell_fault raw.cells) (memory_bits_fault raw) h in
-    let few : sum (map memory_size raw.cells) ≤ 16777216 = ltb-false memory_limit (sum (map memory_size raw.cells)) (test_passes (nat_lt memory_limit (sum (map memory_size raw.cells))) (TooManyBits (sum (map memory_size raw.cells))) none) in
+    let few : sum (map memory_size raw.cells) ≤ 16777216 = ((accepted_apart raw).0 h).0.memory in
     let same = sum-map memory_size raw.cells in
     omega arith
 
@@ -127,12 +124,12 @@ memory_small raw h =
 
 pub few_state_bits : (raw : Raw) → IsAccepted raw → (i : ℕ) → i < length (netlist_of raw).cells → state_bits (cell_at (netlist_of raw) i) ≤ 16777216
 unfolding netlist_of
-few_state_bits raw h i l = each_le (net_numbers raw) raw.cells (cells_pass raw (passed raw h).cells) (memory_small raw (passed raw h).cells) i l
+few_state_bits raw h i l = each_le (net_numbers raw) raw.cells (passed raw h).cells (memory_small raw h) i l
 
 pub cells_small : (raw : Raw) → IsAccepted raw → length (netlist_of raw).cells ≤ 400000 → sum_by state_bits (netlist_of raw).cells ≤ 1655177216
 unfolding netlist_of
 cells_small raw h few =
     let e : length (map (cell_of (net_numbers raw)) raw.cells) ≡ length raw.cells = length-map raw.cells (cell_of (net_numbers raw)) in
-    let t = total_le (net_numbers raw) raw.cells (cells_pass raw (passed raw h).cells) in
-    let m = memory_small raw (passed raw h).cells in
+    let t = total_le (net_numbers raw) raw.cells (passed raw h).cells in
+    let m = memory_small raw h in
     omega arith

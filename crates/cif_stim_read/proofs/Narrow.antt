@@ -22,7 +22,7 @@ use Rattle.cif_defs.specs.Accepted.{netlist_of, is_input, wire_of, source, cell_
 use Rattle.cif_defs.specs.RawModule.{net_numbers}
 use Rattle.cif_defs.specs.declared.raw_module.RawPort.{RawPort}
 use Rattle.cif_defs.specs.declared.raw_module.Raw.{Raw}
-use Rattle.cif_checks.specs.Checks.{◌else_by◌, fault_if, first_fault, build_fault, ports_fault, ports_fault_from, port_fault, seen_after, cells_fault, cell_fault, cell_fault_by, known_cell_fault, parameters_fault, memory_form, zero_width, too_wide, missing_port, wrong_width, constant_output, number_or_0, memory_bits_fault, IsAccepted}
+use Rattle.cif_checks.specs.Checks.{◌else_by◌, fault_if, first_fault, build_fault, ports_fault, ports_fault_from, port_fault, seen_after, cell_fault, cell_fault_by, known_cell_fault, parameters_fault, memory_form, zero_width, too_wide, missing_port, wrong_width, constant_output, number_or_0, IsAccepted}
 use Rattle.cif_checks.proofs.CellChecks.{limit_small}
 use Rattle.cif_cells.proofs.FittedCells.{fitted}
 use Rattle.cif_nets.proofs.InitLaws.{number_is}
@@ -172,13 +172,9 @@ each_memory ns [] h i l e = absurd (omega arith)
 each_memory ns (cell ∷ cells) h zero l e = memory_passes ns cell (first_passes (cell_fault cell) (first_fault cell_fault cells) h) e
 each_memory ns (cell ∷ cells) h (suc i) l e = each_memory ns cells (next_passes (cell_fault cell) (first_fault cell_fault cells) h) i (omega arith) e
 
-cells_pass : (raw : Raw) → cells_fault raw ≡ None → first_fault cell_fault raw.cells ≡ None
-unfolding cells_fault
-cells_pass raw h = first_passes (first_fault cell_fault raw.cells) (memory_bits_fault raw) h
-
 memory_at : (raw : Raw) → IsAccepted raw → (i : ℕ) → i < length (netlist_of raw).cells → is_memory (role_of (cell_at (netlist_of raw) i).kind) ≡ true → width (cell_at (netlist_of raw) i) ≤ 65536
 unfolding netlist_of
-memory_at raw h i l e = each_memory (net_numbers raw) raw.cells (cells_pass raw (passed raw h).cells) i l e
+memory_at raw h i l e = each_memory (net_numbers raw) raw.cells (passed raw h).cells i l e
 
 pub memory_small : (raw : Raw) (name : List ℕ) (c : Cell) → IsAccepted raw → Some c ≡ memory_named (netlist_of raw) name → width c ≤ 65536
 unfolding memory_named
