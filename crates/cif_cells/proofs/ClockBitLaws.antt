@@ -21,7 +21,7 @@ use Rattle.cif_defs.specs.declared.raw_module.RawCell.{RawCell}
 use Rattle.cif_defs.specs.declared.raw_module.RawPort.{RawPort}
 use Rattle.cif_defs.specs.declared.raw_module.Raw.{Raw}
 use Rattle.cif_cells.specs.Building.{clock_number, first_number}
-use Rattle.cif_checks.specs.Checks.{◌else_by◌, fault_if, first_fault, cell_fault, cells_fault, known_cell_fault, parameters_fault, memory_form, zero_width, too_wide, missing_port, wrong_width, constant_output, row_width, memory_bits_fault, clock_fault, clock_uses, clocks_fault, data_fault, is_clock_input, is_same_bit, uses_fault, ClockUse, IsAccepted}
+use Rattle.cif_checks.specs.Checks.{◌else_by◌, fault_if, first_fault, cell_fault, known_cell_fault, parameters_fault, memory_form, zero_width, too_wide, missing_port, wrong_width, constant_output, row_width, clock_fault, clock_uses, clocks_fault, data_fault, is_clock_input, is_same_bit, uses_fault, ClockUse, IsAccepted}
 use Rattle.cif_cells.specs.ClockBit.{clock_among, clock_of, first_place, is_clocked, is_clocked_as, is_clocked_by}
 use Rattle.cif_checks.specs.declared.fault.BuildFault.TheVariants.{NoClockInput, TwoClocks, WidthMismatch}
 use Rattle.cif_nets.proofs.FewBits.{known_passes}
@@ -127,10 +127,10 @@ among_cells ns (c ∷ cs) h s =
     (among_cells ns cs (next_passes (cell_fault c) (first_fault cell_fault cs) h))
 
 pub clock_is : (raw : Raw) → IsAccepted raw → option_map (place_of (net_numbers raw)) (clock_number raw) ≡ clock_of raw
-unfolding clock_of cells_fault
+unfolding clock_of
 clock_is raw h =
     let p = passed raw h in
-    among_cells (net_numbers raw) raw.cells (first_passes (first_fault cell_fault raw.cells) (memory_bits_fault raw) p.cells) (bits_start raw p.clocks)
+    among_cells (net_numbers raw) raw.cells p.cells (bits_start raw p.clocks)
 
 -- the same by what is read of a module and of its net numbers
 pub clock_place_is : (raw nets : Raw) (ns : List ℕ) (number place : ℕ) → IsAccepted nets → raw ≡ nets → ns ≡ net_numbers nets → Some number ≡ clock_number raw → place ≡ place_of ns number → Some place ≡ clock_of nets
