@@ -8,7 +8,7 @@ use Rattle.cif_defs.specs.Loop.{IsLevelled}
 use Rattle.cif_defs.specs.Netlist.{IsWired, Netlist, driver_of}
 use Rattle.cif_defs.specs.Run.{value_in}
 use Rattle.cif_defs.specs.TaintRun.{settled_taint}
-use Rattle.cif_defs.proofs.Levels.{given_at_0, rank_of, unique, values_settled}
+use Rattle.cif_defs.proofs.Levels.{IsSettled, given_at_0, rank_of, unique, values_settled}
 use Rattle.cif_defs.proofs.Orders.{place_in, rank_bound, ranked_from_levels}
 use Rattle.cif_defs.proofs.TaintSettles.{taint_at_0, taints_settled}
 use Rattle.cif_shown.specs.Shown.{AreClosed, Given, SameAtOperands, Shows, taint_given, value_given}
