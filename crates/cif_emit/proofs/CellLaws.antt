@@ -9,7 +9,9 @@ use Rattle.cif_defs.specs.Words.{Word, bit, word, operand}
 use Rattle.cif_defs.specs.Meanings.{not_word, reduce_and_word, reduce_or_word, reduce_xor_word, and_word, or_word, xor_word, add_word, mul_word, div_word, lt_word, eq_word, mux_word}
 use Rattle.cif_defs.specs.declared.kinds.Kind.{Kind}
 use Rattle.cif_defs.specs.declared.kinds.Kind.TheVariants.{Mux}
-use Rattle.cif_defs.specs.declared.kinds.Param.TheVariants.{Width}
+use Rattle.cif_defs.specs.declared.kinds.Param.{Param}
+use Rattle.cif_defs.specs.declared.kinds.Param.TheVariants.{ASigned, BSigned, AWidth, BWidth, YWidth, Width}
+use Rattle.cif_defs.specs.declared.kinds.CellPort.{CellPort}
 use Rattle.cif_defs.specs.declared.kinds.CellPort.TheVariants.{A, B, S, Y}
 use Rattle.cif_defs.specs.declared.kinds.PortWidth.TheVariants.{One as OneBit, Of}
 use Rattle.cif_defs.specs.declared.kinds.PortRow.{PortRow}
@@ -33,8 +35,8 @@ use Rattle.cif_term.specs.declared.ops.Op2.{Op2}
 use Rattle.cif_term.specs.declared.ops.Op2.TheVariants.{And, Or, Xor, Add, Mul, Div, LessUnsigned, LessSigned, Equal}
 use Rattle.cif_term.specs.Formulas.{is_on_numbers, one_width, two_width, one_word, two_word}
 use Rattle.cif_emit.specs.CellForms.{one_kind, two_kind, is_signed, sign_number, number_param, unary_numbers, binary_numbers, connection, plain_cell, unary_cell, binary_cell, choice_cell}
-use Rattle.cif_emit.specs.Assigned.{raw_bit, raw_word, words_given}
-use Rattle.cif_emit.specs.Emitted.{are_known, IsEmitted}
+use Rattle.cif_raw_runs.specs.Assigned.{raw_bit, raw_word, words_given}
+use Rattle.cif_emit.specs.Emitted.{are_known, IsNumber, IsAtPort, IsEmitted}
 use Rattle.cif_emit.proofs.Emissions.{cell_emitted, known_append, known_first, known_second}
 use Rattle.cif_emit.proofs.Shapes.{PortFits, shaped_plain, shaped_output, shaped_operands, shaped_means, one_shape, two_shape, choice_shape, operand_limit, unary_params, binary_params}
 
@@ -48,6 +50,14 @@ two_of {T} {y = y} {a = a} e f g = e ∙ ap (λ (q : T). q ∷ y ∷ []) f ∙ a
 
 pub three_of : {T : Type 0} {xs : List T} {x y z a b c : T} → xs ≡ x ∷ y ∷ z ∷ [] → x ≡ a → y ≡ b → z ≡ c → xs ≡ a ∷ b ∷ c ∷ []
 three_of {T} {y = y} {z = z} {a = a} {b = b} e f g h = e ∙ ap (λ (q : T). q ∷ y ∷ z ∷ []) f ∙ ap (λ (q : T). a ∷ q ∷ z ∷ []) g ∙ ap (λ (q : T). a ∷ b ∷ q ∷ []) h
+
+-- ---- parameters and connections
+
+number : (p : Param) (x : ℕ) → x < 2 ^ 32 → IsNumber (number_param p x)
+number p x h = (p, (x, (h, refl)))
+
+at_port : (port : CellPort) (bits : List RawBit) → IsAtPort (connection port bits)
+at_port port bits = (port, refl)
 
 -- ---- one operand
 
@@ -98,6 +108,9 @@ unary_params_given : (name : List ℕ) (op : Op1) (n width : ℕ) (a y : List Ra
 unfolding needed_number
 unary_params_given name op n width a y h k = let p = below_limit_test n h in let q = below_limit_test width k in rw (p, q) refl
 
+unary_are_numbers : (n width : ℕ) → n < 2 ^ 32 → width < 2 ^ 32 → AllByRecursion IsNumber (unary_numbers n width)
+unary_are_numbers n width h k = (number ASigned 0 (omega arith), (number AWidth n h, (number YWidth width k, tt)))
+
 unary_ports : (name : List ℕ) (op : Op1) (n width : ℕ) (a y : List RawBit) → length a ≡ n → length y ≡ width → 1 ≤ n → n ≤ 4096 → 1 ≤ width → width ≤ 4096
     → AllByRecursion (PortFits (unary_cell name op n width a y) 4096) (a_row ∷ y_row ∷ [])
 unfolding needed_number
@@ -121,7 +134,7 @@ one_emitted m n old new op a y some few added =
     let nets : list_all is_net y ≡ true = added.nets.nets in
     let wide : length y ≡ width = added.nets.as_wide in
     cell_emitted m n old new c width a y (λ v w. w ≡ one_word op (raw_word v a)) added refl
-    (shaped_plain c (one_kind op) unary_params (a_row ∷ []) y_row 4096 s refl refl refl (unary_in_order name op (length a) width a y)
+    (shaped_plain c (one_kind op) unary_params (a_row ∷ []) y_row 4096 s refl refl refl (unary_are_numbers (length a) width (omega arith) (omega (arith, range.1))) (at_port A a, (at_port Y y, tt)) (unary_in_order name op (length a) width a y)
     (unary_params_given name op (length a) width a y (omega arith) (omega (arith, range.1)))
     (unary_ports name op (length a) width a y refl wide some few range.0 range.1) nets (omega (arith, range.1)))
     (shaped_output c (one_kind op) unary_params (a_row ∷ []) y_row 4096 s refl)
@@ -213,16 +226,17 @@ binary_in_order name op n width a b y = record {
   connections = ((refl, (refl, tt)), ((refl, tt), (tt, tt)));
 }
 
+sign_is_small : (b : Bool) → sign_number b < 2 ^ 32
+sign_is_small true = omega arith
+sign_is_small false = omega arith
+
+binary_are_numbers : (signed : Bool) (n width : ℕ) → n < 2 ^ 32 → width < 2 ^ 32 → AllByRecursion IsNumber (binary_numbers signed n width)
+binary_are_numbers signed n width h k =
+    let sign = sign_is_small signed in
+    (number ASigned (sign_number signed) sign, (number AWidth n h, (number BSigned (sign_number signed) sign, (number BWidth n h, (number YWidth width k, tt)))))
+
 sign_small : (op : Op2) → nat_lt (sign_number (is_signed op)) (2 ^ 32) ≡ true
-sign_small And = refl
-sign_small Or = refl
-sign_small Xor = refl
-sign_small Add = refl
-sign_small Mul = refl
-sign_small Div = refl
-sign_small LessUnsigned = refl
-sign_small LessSigned = refl
-sign_small Equal = refl
+sign_small op = below_limit_test (sign_number (is_signed op)) (sign_is_small (is_signed op))
 
 binary_params_given : (name : List ℕ) (op : Op2) (n width : ℕ) (a b y : List RawBit) → n < 2 ^ 32 → width < 2 ^ 32
     → first_fault (λ p. fault_if (not (has_value (binary_cell name op n width a b y) p)) (bad_parameter (binary_cell name op n width a b y) p)) binary_params ≡ None
@@ -261,7 +275,7 @@ two_emitted m n old new op a b y same some few numbers added =
     let nets : list_all is_net y ≡ true = added.nets.nets in
     let wide : length y ≡ width = added.nets.as_wide in
     cell_emitted m n old new c width (a ++ b) y (λ v w. w ≡ two_word op (raw_word v a) (raw_word v b)) added refl
-    (shaped_plain c (two_kind op) binary_params (a_row ∷ b_row ∷ []) y_row (operand_limit op) s refl refl refl (binary_in_order name op (length a) width a b y)
+    (shaped_plain c (two_kind op) binary_params (a_row ∷ b_row ∷ []) y_row (operand_limit op) s refl refl refl (binary_are_numbers (is_signed op) (length a) width (omega arith) (omega (arith, small))) (at_port A a, (at_port B b, (at_port Y y, tt))) (binary_in_order name op (length a) width a b y)
     (binary_params_given name op (length a) width a b y (omega arith) (omega (arith, small)))
     (binary_ports name op (length a) width (operand_limit op) a b y refl same wide limit.1 some limit.0 range.0 range.1) nets (omega (arith, small)))
     (shaped_output c (two_kind op) binary_params (a_row ∷ b_row ∷ []) y_row (operand_limit op) s refl)
@@ -342,7 +356,7 @@ choice_emitted m n old new s a b y one same some few added =
     let nets : list_all is_net y ≡ true = added.nets.nets in
     let wide : length y ≡ length a = added.nets.as_wide in
     cell_emitted m n old new c (length a) (s ++ (a ++ b)) y (λ v w. w ≡ (if bit (raw_word v s) 0 then raw_word v b else raw_word v a)) added refl
-    (shaped_plain c Mux (Width ∷ []) choice_operands choice_output 4096 choice_shape refl refl refl (choice_in_order name (length a) a b s y)
+    (shaped_plain c Mux (Width ∷ []) choice_operands choice_output 4096 choice_shape refl refl refl (number Width (length a) (omega arith), tt) (at_port A a, (at_port B b, (at_port S s, (at_port Y y, tt)))) (choice_in_order name (length a) a b s y)
     (choice_params_given name (length a) a b s y (omega arith))
     (choice_ports name (length a) a b s y refl same one wide some few) nets (omega arith))
     (shaped_output c Mux (Width ∷ []) choice_operands choice_output 4096 choice_shape refl)

@@ -12,7 +12,7 @@ use Rattle.cif_defs.specs.declared.raw_module.RawBit.{RawBit}
 use Rattle.cif_defs.specs.declared.raw_module.RawBit.TheVariants.{Net, Zero, One, X, Z}
 use Rattle.cif_defs.specs.declared.raw_module.RawCell.{RawCell}
 use Rattle.cif_checks.specs.Checks.{has_number}
-use Rattle.cif_emit.specs.Assigned.{raw_word, IsMet}
+use Rattle.cif_raw_runs.specs.Assigned.{raw_word, IsMet}
 use Rattle.cif_emit.specs.Makers.{Maker, RiseBetween, name_in}
 use Rattle.cif_emit.specs.Emitted.{drives, is_known, are_known, ReadInOrder, IsPlainCell, AreMade, IsEmitted}
 use Rattle.cif_emit.specs.Handed.{IsAdded}

@@ -5,5 +5,6 @@ pub mod Shapes
 pub mod CellLaws
 pub mod PieceLaws
 pub mod TermLaws
-pub mod CellMeanings
 pub mod Views
+pub mod NameLaws
+pub mod TextLaws

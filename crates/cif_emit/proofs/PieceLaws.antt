@@ -15,7 +15,7 @@ use Rattle.cif_term.specs.declared.ops.Op2.{Op2}
 use Rattle.cif_term.specs.declared.ops.Op2.TheVariants.{And, Or, Xor, Add, Mul, Div, LessUnsigned, LessSigned, Equal}
 use Rattle.cif_term.specs.Formulas.{is_on_numbers, pieces, joined_pieces, one_cost, one_width, one_word, two_cost, two_width, two_word}
 use Rattle.cif_term.proofs.Widened.{compared-equal}
-use Rattle.cif_emit.specs.Assigned.{raw_bit, raw_word}
+use Rattle.cif_raw_runs.specs.Assigned.{raw_bit, raw_word}
 use Rattle.cif_emit.specs.Handed.{IsKept}
 use Rattle.cif_emit.specs.Makers.{Maker}
 use Rattle.cif_emit.specs.Emitted.{are_known, IsEmitted}

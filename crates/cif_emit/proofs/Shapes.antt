@@ -21,8 +21,8 @@ use Rattle.cif_defs.specs.Table.{kind_of, type_text, parameters_of, operands_of,
 use Rattle.cif_defs.specs.RawModule.{is_net, nets_in, port_bits, connected, bits_by, operand_bits, output_bits}
 use Rattle.cif_defs.specs.Order.{IsCellInOrder}
 use Rattle.cif_defs.specs.Words.{Word, operand}
-use Rattle.cif_emit.specs.Assigned.{raw_word, TakesWord, IsMet, IsMetBy, words_given}
-use Rattle.cif_emit.specs.Emitted.{drives, IsPlainCell}
+use Rattle.cif_raw_runs.specs.Assigned.{raw_word, TakesWord, IsMet, IsMetBy, words_given}
+use Rattle.cif_emit.specs.Emitted.{drives, IsNumber, IsAtPort, IsPlainCell}
 use Rattle.cif_emit.proofs.NewNets.{length-nets}
 use Rattle.cif_checks.specs.declared.fault.BuildFault.{BuildFault}
 use Rattle.cif_checks.specs.Checks.{◌else_by◌, fault_if, first_fault, first_fault_from, cell_fault, cell_fault_by, parameters_fault, slice_fault, is_wide_memory, has_value, bad_parameter, memory_form, row_width, zero_width, too_wide, missing_port, wrong_width, constant_output, is_constant, may_be_empty}
@@ -168,12 +168,12 @@ pub shaped_operands : (c : RawCell) (k : Kind) (ps : List Param) (os : List Port
 shaped_operands c k ps os o limit s e = ap (bits_by operands_of c) (ap kind_of e ∙ s.kind) ∙ ap (flat_map (port_bits c)) s.operands
 
 pub shaped_plain : (c : RawCell) (k : Kind) (ps : List Param) (os : List PortRow) (o : PortRow) (limit : ℕ) → HasShape k ps os o limit → c.kind ≡ type_text k
-    → c.hide ≡ false → c.attributes ≡ [] → IsCellInOrder c
+    → c.hide ≡ false → c.attributes ≡ [] → AllByRecursion IsNumber c.parameters → AllByRecursion IsAtPort c.connections → IsCellInOrder c
     → first_fault (λ p. fault_if (not (has_value c p)) (bad_parameter c p)) ps ≡ None
     → AllByRecursion (PortFits c limit) (os ++ o ∷ [])
     → list_all is_net (port_bits c o) ≡ true → length (port_bits c o) ≤ 4096
     → IsPlainCell c
-shaped_plain c k ps os o limit s e hide bare order params ports nets few =
+shaped_plain c k ps os o limit s e hide bare numbers ports_named order params ports nets few =
     let out : output_bits c ≡ port_bits c o = shaped_output c k ps os o limit s e in
     record {
       passes = shaped_passes c k ps os o limit s e params ports nets;
@@ -181,6 +181,8 @@ shaped_plain c k ps os o limit s e hide bare order params ports nets few =
       in_order = order;
       shown = hide;
       bare = bare;
+      numbers = numbers;
+      ports = ports_named;
       nets = ap (list_all is_net) out ∙ nets;
       few = (let n : length (drives c) ≡ length (port_bits c o) = ap (λ (l : List RawBit). length (nets_in l)) out ∙ length-nets (port_bits c o) nets in omega arith);
     }

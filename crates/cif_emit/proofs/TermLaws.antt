@@ -10,7 +10,7 @@ use Rattle.cif_term.specs.declared.ops.Op1.{Op1}
 use Rattle.cif_term.specs.declared.ops.Op2.{Op2}
 use Rattle.cif_term.specs.Formulas.{Formula, Value, Taint, Const, Bound, Pick, Join, One, Two, Choose, Let, value_of, width_of, cost_of, plain_width, picked, one_word, two_word, one_width, two_width, one_cost, two_cost, pieces, is_on_numbers, same_width}
 use Rattle.cif_term.proofs.Lengths.{length-value, width_range, pick_some, join_some, one_some, two_some, same_some, choose_some, let_some}
-use Rattle.cif_emit.specs.Assigned.{raw_bit, raw_word, raw_words}
+use Rattle.cif_raw_runs.specs.Assigned.{raw_bit, raw_word, raw_words}
 use Rattle.cif_emit.specs.Constants.{constant_bits, picked_bits}
 use Rattle.cif_emit.specs.Makers.{Maker}
 use Rattle.cif_emit.specs.Emitted.{is_known, are_known, IsEmitted, IsEmittedIn, IsValue, value_bits, taint_bits, all_bits, widths}

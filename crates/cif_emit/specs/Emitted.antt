@@ -1,18 +1,23 @@
 -- Cells that were appended, and bits that stand for a word under every assignment that meets them.
-use Rattle.std.specs.Prelude.{ℕ, ◌+◌, ◌≤◌, ◌≡◌, Bool, true, false, List, [], ◌∷◌, ◌++◌, map, length, Some, None, option_map}
+use Rattle.std.specs.Prelude.{ℕ, ◌+◌, ◌<◌, ◌≤◌, ◌^◌, ◌≡◌, Bool, true, false, List, [], ◌∷◌, ◌++◌, map, length, Some, None, option_map}
 use Rattle.std.specs.List.{AllByRecursion, flat_map, list_all, range_with_len}
 use Rattle.cif_defs.specs.Words.{Word}
 use Rattle.cif_defs.specs.Kinds.{role_of}
 use Rattle.cif_defs.specs.Table.{kind_of}
 use Rattle.cif_defs.specs.Order.{IsCellInOrder, cell_names}
 use Rattle.cif_defs.specs.RawModule.{operand_bits, output_bits, nets_in, is_net}
+use Rattle.cif_defs.specs.declared.kinds.Param.{Param}
+use Rattle.cif_defs.specs.declared.kinds.CellPort.{CellPort}
 use Rattle.cif_defs.specs.declared.kinds.Role.TheVariants.{Combinational}
 use Rattle.cif_defs.specs.declared.raw_module.RawBit.{RawBit}
 use Rattle.cif_defs.specs.declared.raw_module.RawBit.TheVariants.{Net, Zero, One, X, Z}
+use Rattle.cif_defs.specs.declared.raw_module.RawParam.{RawParam}
+use Rattle.cif_defs.specs.declared.raw_module.Connection.{Connection}
 use Rattle.cif_defs.specs.declared.raw_module.RawCell.{RawCell}
 use Rattle.cif_checks.specs.Checks.{cell_fault, has_number}
 use Rattle.cif_term.specs.Formulas.{Formula, value_of, plain_width, cost_of}
-use Rattle.cif_emit.specs.Assigned.{raw_word, raw_words, AreMet}
+use Rattle.cif_raw_runs.specs.Assigned.{raw_word, raw_words, AreMet}
+use Rattle.cif_emit.specs.CellForms.{number_param, connection}
 use Rattle.cif_emit.specs.Makers.{Maker, RiseBetween, name_in}
 use Rattle.cif_emit.specs.declared.terms.OperandPair.{OperandPair}
 
@@ -38,13 +43,23 @@ abbrev pub ReadInOrder : List ℕ → List RawCell → Type 0
 ReadInOrder known [] = Unit {0}
 ReadInOrder known (c ∷ cells) = (are_known known (operand_bits c) ≡ true) × ReadInOrder (known ++ drives c) cells
 
--- a cell that passes the checks of a cell, computes, has no attributes, and drives a net at each output place
+-- a number below 2 ^ 32 under the name of a parameter, and bits at a port
+abbrev pub IsNumber : RawParam → Type 0
+IsNumber q = (p : Param) × ((x : ℕ) × ((x < 2 ^ 32) × (q ≡ number_param p x)))
+
+abbrev pub IsAtPort : Connection → Type 0
+IsAtPort x = (port : CellPort) × (x ≡ connection port x.bits)
+
+-- a cell that passes the checks of a cell, computes, has no attributes and only numbers as parameters, is connected at
+-- ports alone, and drives a net at each output place
 pub record IsPlainCell (c : RawCell) : Type 0 where
   pub passes : cell_fault c ≡ None
   pub computes : option_map role_of (kind_of c.kind) ≡ Some Combinational
   pub in_order : IsCellInOrder c
   pub shown : c.hide ≡ false
   pub bare : c.attributes ≡ []
+  pub numbers : AllByRecursion IsNumber c.parameters
+  pub ports : AllByRecursion IsAtPort c.connections
   pub nets : list_all is_net (output_bits c) ≡ true
   pub few : length (drives c) ≤ 4096
 

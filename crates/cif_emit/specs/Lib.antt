@@ -1,4 +1,3 @@
-pub mod Assigned
 pub mod Makers
 pub mod Counting
 pub mod CellForms

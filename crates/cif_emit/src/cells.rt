@@ -4,7 +4,7 @@ ghost use Rattle.std.specs.Prelude.{◌≡◌, ◌≤◌, ◌++◌, ◌∷◌, [
 ghost use Rattle.cif_defs.specs.Words.{bit};
 ghost use Rattle.cif_defs.specs.declared.kinds.CellPort.TheVariants.{Y as OutputY};
 ghost use Rattle.cif_term.specs.Formulas.{is_on_numbers, one_width as width_of_one, one_word, two_width as width_of_two, two_word};
-ghost use Rattle.cif_emit.specs.Assigned.{raw_word};
+ghost use Rattle.cif_raw_runs.specs.Assigned.{raw_word};
 ghost use Rattle.cif_emit.specs.Makers.{name_in};
 ghost use Rattle.cif_emit.specs.Handed.{IsAdded, IsKept};
 ghost use Rattle.cif_emit.specs.CellForms.{binary_numbers, connection as connection_of, is_signed as is_signed_op, number_param as number_param_of, one_kind as kind_of_one, plain_cell, two_kind as kind_of_two, unary_numbers};

@@ -146,8 +146,22 @@ impl NameMaker {
     pub fn begin(&mut self, cell: Name)
         ensures { self.new ≡ record self.old { cell = Some cell; made = 0 } }
     {
+        self.resume(cell, 0)
+    }
+
+    /// Goes on with the names of a cell, of which `made` were made before: the next one is `C__t` and this number.
+    pub fn resume(&mut self, cell: Name, made: u64)
+        ensures { self.new ≡ record self.old { cell = Some cell; made = made } }
+    {
         self.cell = Some(cell);
-        self.counts.made = 0;
+        self.counts.made = made;
+    }
+
+    /// How many names of the cell were made.
+    pub fn made(&self) -> u64
+        ensures { result ≡ self.now.made }
+    {
+        self.counts.made
     }
 
     /// The next net number: the least from 2 on that isn't used and wasn't handed out. Fewer than 2^62 numbers have been

@@ -5,7 +5,7 @@ ghost use Rattle.cif_defs.specs.Words.{bit};
 ghost use Rattle.cif_term.specs.Formulas.{is_on_numbers, one_cost, one_width, one_word, pieces, two_cost, two_width, two_word};
 ghost use Rattle.cif_term.specs.declared.ops.Op1.TheVariants.{Not, ReduceAnd};
 ghost use Rattle.cif_term.specs.declared.ops.Op2.TheVariants.{Equal};
-ghost use Rattle.cif_emit.specs.Assigned.{raw_word};
+ghost use Rattle.cif_raw_runs.specs.Assigned.{raw_word};
 ghost use Rattle.cif_emit.specs.Handed.{IsKept};
 ghost use Rattle.cif_emit.specs.Emitted.{IsEmitted};
 ghost use Rattle.cif_emit.specs.Pieces.{are_same, is_bitwise, is_reduction, piece_at, reduced};

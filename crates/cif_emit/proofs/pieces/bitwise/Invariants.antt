@@ -1,6 +1,6 @@
 use Rattle.std.proofs.Common.{◌≡◌, length, ◌++◌}
 use Rattle.cif_term.specs.Formulas.{two_word}
-use Rattle.cif_emit.specs.Assigned.{raw_word}
+use Rattle.cif_raw_runs.specs.Assigned.{raw_word}
 use Rattle.cif_emit.specs.Emitted.{IsEmitted}
 use Rattle.cif_emit.proofs.PieceLaws.{front}
 use Rattle.cif_emit.proofs.pieces.bitwise.Given as goal

@@ -1,6 +1,6 @@
 use Rattle.std.proofs.Common.{◌≡◌, ◌++◌}
 use Rattle.cif_term.specs.declared.ops.Op1.TheVariants.{ReduceAnd}
-use Rattle.cif_emit.specs.Assigned.{raw_word}
+use Rattle.cif_raw_runs.specs.Assigned.{raw_word}
 use Rattle.cif_emit.specs.Emitted.{IsEmitted}
 use Rattle.cif_emit.specs.Pieces.{are_same, reduced}
 use Rattle.cif_emit.proofs.PieceLaws.{front}

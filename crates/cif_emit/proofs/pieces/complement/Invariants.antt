@@ -1,7 +1,7 @@
 use Rattle.std.proofs.Common.{◌≡◌, length}
 use Rattle.cif_term.specs.declared.ops.Op1.TheVariants.{Not}
 use Rattle.cif_term.specs.Formulas.{one_word}
-use Rattle.cif_emit.specs.Assigned.{raw_word}
+use Rattle.cif_raw_runs.specs.Assigned.{raw_word}
 use Rattle.cif_emit.specs.Emitted.{IsEmitted}
 use Rattle.cif_emit.proofs.PieceLaws.{front}
 use Rattle.cif_emit.proofs.pieces.complement.Given as goal

@@ -1,6 +1,6 @@
 use Rattle.std.proofs.Common.{◌≡◌, length, if◌then◌else◌, ◌++◌}
 use Rattle.cif_defs.specs.Words.{bit}
-use Rattle.cif_emit.specs.Assigned.{raw_word}
+use Rattle.cif_raw_runs.specs.Assigned.{raw_word}
 use Rattle.cif_emit.specs.Emitted.{IsEmitted}
 use Rattle.cif_emit.proofs.PieceLaws.{front}
 use Rattle.cif_emit.proofs.pieces.emit_choice.Given as goal

@@ -1,5 +1,5 @@
 use Rattle.std.proofs.Common.{◌≡◌}
-use Rattle.cif_emit.specs.Assigned.{raw_word}
+use Rattle.cif_raw_runs.specs.Assigned.{raw_word}
 use Rattle.cif_emit.specs.Emitted.{IsEmitted}
 use Rattle.cif_emit.specs.Pieces.{reduced}
 use Rattle.cif_emit.proofs.PieceLaws.{front}
