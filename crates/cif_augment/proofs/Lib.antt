@@ -1,0 +1,13 @@
+pub mod HandMade
+pub mod Examples
+pub mod Lines
+pub mod Named
+pub mod Marks
+pub mod FirstNames
+pub mod Doubles
+pub mod Digits
+pub mod WantedNames
+pub mod TakenNames
+pub mod NarrowCells
+pub mod Places
+pub mod Faults

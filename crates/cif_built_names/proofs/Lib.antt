@@ -1,0 +1,12 @@
+pub mod NameCounts
+pub mod NumberedNames
+pub mod WeightBounds
+pub mod WantedNames
+pub mod BlockNames
+pub mod FurtherNames
+pub mod Zips
+pub mod BuiltNames
+pub mod NewNets
+pub mod FewCells
+pub mod ClearedPorts
+pub mod BuiltOrder
