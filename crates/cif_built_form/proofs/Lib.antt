@@ -1,0 +1,17 @@
+pub mod Lists
+pub mod Passing
+pub mod Numbers
+pub mod Standing
+pub mod New
+pub mod Drivers
+pub mod Ports
+pub mod Cells
+pub mod Inits
+pub mod Checked
+pub mod Fine
+pub mod Passes
+pub mod Shadows
+pub mod ReadBits
+pub mod Clocks
+pub mod ClockChecks
+pub mod Form

@@ -1,0 +1,12 @@
+pub mod Finds
+pub mod Names
+pub mod Named
+pub mod Lines
+pub mod Counts
+pub mod Inputs
+pub mod Started
+pub mod Digits
+pub mod NewCells
+pub mod Initial
+pub mod Sizes
+pub mod Starts

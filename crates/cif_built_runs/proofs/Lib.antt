@@ -1,0 +1,14 @@
+mod Lists
+mod Cells
+mod Standing
+mod Ports
+mod Clocks
+mod StateCells
+mod Copies
+mod Columns
+mod Agreement
+mod Values
+mod Stored
+mod Taints
+mod Cycles
+mod Shown
