@@ -1,0 +1,10 @@
+pub mod Counted
+pub mod Owners
+pub mod Feeding
+pub mod Turns
+pub mod TurnRanks
+pub mod Parts
+pub mod Origins
+pub mod Walk
+pub mod AllCells
+pub mod BuiltRanks
