@@ -1,6 +1,6 @@
 -- A module that is built to augment another: what stands in it, which bits hold the taints, and what its new cells read and
 -- compute. That it augments the other is a law on what is said here.
-use Rattle.std.specs.Prelude.{ℕ, ◌<◌, ◌≡◌, Bool, true, false, ◌==◌, List, [], ◌∷◌, ◌++◌, map, get_or, Contains, IsPermutation, Some}
+use Rattle.std.specs.Prelude.{ℕ, ◌≡◌, Bool, true, false, ◌==◌, List, ◌++◌, map, get_or, Contains, IsPermutation, Some}
 use Rattle.std.specs.List.{flat_map, list_all, list_any, zip, AllByRecursion, AllZip}
 use Rattle.std.specs.List.Sorted.{IsSortedByKey}
 use Rattle.std.specs.Ordering.{nat_cmp}

@@ -1,8 +1,8 @@
 -- What the new cells for a cell compute in a cycle, under any values of the net numbers that meet them.
-use Rattle.std.specs.Prelude.{ℕ, ◌<◌, ◌≡◌, Bool, true, false, List, [], ◌∷◌, ◌++◌, get_or, Option, Some, None}
+use Rattle.std.specs.Prelude.{ℕ, ◌<◌, ◌≡◌, Bool, true, false, List, [], ◌∷◌, ◌++◌, get_or, Some}
 use Rattle.cif_defs.specs.Words.{Word, bit}
 use Rattle.cif_defs.specs.Kinds.{role_of, is_register, is_memory}
-use Rattle.cif_defs.specs.Memory.{MemoryShape, next_flag, next_memory, next_memory_taint, read_address, read_word}
+use Rattle.cif_defs.specs.Memory.{next_flag, next_memory, next_memory_taint, read_address, read_word}
 use Rattle.cif_defs.specs.Cells.{Cell, number_of, shape_of}
 use Rattle.cif_defs.specs.Taint.{next_register_taint}
 use Rattle.cif_defs.specs.Accepted.{cell_of, no_bit}

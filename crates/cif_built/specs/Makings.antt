@@ -1,5 +1,5 @@
 -- The new cells for a cell, and what they may read, where a table says which bit holds the taint of a net number.
-use Rattle.std.specs.Prelude.{ℕ, ◌≡◌, Bool, true, List, [], ◌∷◌, ◌++◌, map, get_or, Option, Some, None, option_to_list}
+use Rattle.std.specs.Prelude.{ℕ, ◌≡◌, true, List, [], ◌++◌, map, get_or, Option, Some, None, option_to_list}
 use Rattle.std.specs.List.{flat_map, list_all}
 use Rattle.cif_defs.specs.Kinds.{role_of}
 use Rattle.cif_defs.specs.Table.{operands_of}
