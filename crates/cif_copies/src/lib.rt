@@ -3,9 +3,7 @@
 
 ghost use Rattle.std.specs.Prelude.{◌≡◌, IfOk};
 
-use cif_defs::{
-    Connection, Listed, ParamValue, RawBit, RawCell, RawName, RawParam, RawPort,
-};
+use cif_defs::{Connection, Listed, ParamValue, RawBit, RawCell, RawName, RawParam, RawPort};
 use std::alloc::{AllocError, Global};
 
 /// Something that can be copied, with all that it holds.
