@@ -15,12 +15,11 @@ use Rattle.cif_defs.proofs.NameOrder.{own_place}
 use Rattle.cif_defs.proofs.WordLaws.{same_words}
 use Rattle.cif_nets.proofs.Places.{At, At-below, At-get, At-moved, At-same, Has-unfilter}
 use Rattle.cif_raw_runs.specs.Assigned.{raw_bit, raw_word}
-use Rattle.cif_raw_runs.specs.Places.{flag_at, is_released_number, net_taint, net_value, stored_taint_word, stored_word, taint_at, value_at}
+use Rattle.cif_raw_runs.specs.Places.{is_released_number, net_taint, net_value, taint_at, value_at}
 use Rattle.cif_raw_runs.specs.Given.{port_holds, raw_taint}
 use Rattle.cif_raw_runs.proofs.Numbers.{at_contained, contained_has, has_contained, net_at, number_of_port}
-use Rattle.cif_augment.specs.Names.{data_ports, flag_name, is_data_port, taint_name}
+use Rattle.cif_augment.specs.Names.{data_ports, is_data_port, taint_name}
 use Rattle.cif_augment.specs.Stimuli.{is_released_bit}
-use Rattle.cif_augment.specs.Places.{flag_at as flag_shown, stored_at as stored_shown, stored_taint_at as stored_taint_shown, taint_at as taint_shown, value_at as value_shown}
 use Rattle.cif_augment.specs.Augmented.{ShowsTaint}
 use Rattle.cif_built.specs.Makings.{taint_bit, taint_bits}
 use Rattle.cif_built.specs.Computing.{taints_held}
@@ -34,33 +33,21 @@ use Rattle.cif_built_runs.proofs.Cycles.{agree}
 
 -- ---- what a run shows, by net numbers and names
 
-value_of_bit : (raw : Raw) (s : Stimulus) (k : ℕ) (b : RawBit) → value_shown raw s k b ≡ raw_bit (net_value raw s k) b
-unfolding value_at value_shown
+value_of_bit : (raw : Raw) (s : Stimulus) (k : ℕ) (b : RawBit) → value_at raw s k b ≡ raw_bit (net_value raw s k) b
+unfolding value_at
 value_of_bit raw s k (Net x) = refl
 value_of_bit raw s k Zero = refl
 value_of_bit raw s k One = refl
 value_of_bit raw s k X = refl
 value_of_bit raw s k Z = refl
 
-taint_of_bit : (raw : Raw) (s : Stimulus) (k : ℕ) (b : RawBit) → taint_shown raw s k b ≡ raw_taint (net_taint raw s k) b
-unfolding taint_at taint_shown
+taint_of_bit : (raw : Raw) (s : Stimulus) (k : ℕ) (b : RawBit) → taint_at raw s k b ≡ raw_taint (net_taint raw s k) b
+unfolding taint_at
 taint_of_bit raw s k (Net x) = refl
 taint_of_bit raw s k Zero = refl
 taint_of_bit raw s k One = refl
 taint_of_bit raw s k X = refl
 taint_of_bit raw s k Z = refl
-
-stored_of_word : (raw : Raw) (s : Stimulus) (k : ℕ) (name : List ℕ) (i : ℕ) → stored_shown raw s k name i ≡ bit (stored_word raw s k name) i
-unfolding stored_word stored_shown
-stored_of_word raw s k name i = refl
-
-stored_taint_of_word : (raw : Raw) (s : Stimulus) (k : ℕ) (name : List ℕ) (i : ℕ) → stored_taint_shown raw s k name i ≡ bit (stored_taint_word raw s k name) i
-unfolding stored_taint_word stored_taint_shown
-stored_taint_of_word raw s k name i = refl
-
-same_flag : (raw : Raw) (s : Stimulus) (k : ℕ) (name : List ℕ) → flag_shown raw s k name ≡ flag_at raw s k name
-unfolding flag_at flag_shown
-same_flag raw s k name = refl
 
 map_same : {A B : Type 0} (f g : A → B) (xs : List A) → ((x : A) → f x ≡ g x) → map f xs ≡ map g xs
 map_same f g [] h = refl
@@ -150,14 +137,14 @@ unfolding data_ports
 data_port_stands n p h = contained_has n.ports p (Has-unfilter (is_data_port n) n.ports p (has_contained (data_ports n) p h))
 
 port_taints : {n a : Raw} {released : List ℕ} {r q : ℕ → ℕ} {s t : Stimulus} (k : ℕ) (p x : RawPort) → Setting n a released r q s t → Contains (data_ports n) p → Contains a.ports x → x.name ≡ taint_name p.name
-    → map (value_shown a t k) x.bits ≡ map (taint_shown n s k) p.bits
+    → map (value_at a t k) x.bits ≡ map (taint_at n s k) p.bits
 port_taints {n = n} {a = a} {s = s} {t = t} k p x h p_data x_in e =
     let d = taint_port p h.built p_data in
     let same : x ≡ d.port = port_named a x d.port h.built_runs.in_order x_in d.shown (e ∙ sym d.shadow.port.name) in
-    map_same (value_shown a t k) (raw_bit (net_value a t k)) x.bits (value_of_bit a t k)
+    map_same (value_at a t k) (raw_bit (net_value a t k)) x.bits (value_of_bit a t k)
     ∙ ap (λ (y : RawPort). raw_word (net_value a t k) y.bits) same
     ∙ port_shows k p h d p_data (data_port_stands n p p_data)
-    ∙ sym (map_same (taint_shown n s k) (raw_taint (net_taint n s k)) p.bits (taint_of_bit n s k))
+    ∙ sym (map_same (taint_at n s k) (raw_taint (net_taint n s k)) p.bits (taint_of_bit n s k))
 
 -- ---- the law
 
@@ -165,7 +152,7 @@ pub shows_taint : {n a : Raw} {released : List ℕ} {r q : ℕ → ℕ} {s t : S
 shows_taint {n = n} {a = a} {s = s} {t = t} k h = (let agrees = agree k h in record {
   values = λ x number. value_of_bit a t k (Net x) ∙ values_agree k h agrees x number ∙ sym (value_of_bit n s k (Net x));
   taints = λ p x p_data x_in e. port_taints k p x h p_data x_in e;
-  registers = λ c i c_in e net. stored_of_word a t k (taint_name c.name) i ∙ (agrees c c_in).register i e net ∙ sym (stored_taint_of_word n s k c.name i);
-  memories = λ c i c_in e. stored_of_word a t k (taint_name c.name) i ∙ ap (λ (w : Word). bit w i) ((agrees c c_in).memory e) ∙ sym (stored_taint_of_word n s k c.name i);
-  flags = λ c c_in e. stored_of_word a t k (flag_name c.name) 0 ∙ ap (λ (w : Word). bit w 0) ((agrees c c_in).flag e) ∙ sym (same_flag n s k c.name);
+  registers = λ c i c_in e net. (agrees c c_in).register i e net;
+  memories = λ c i c_in e. ap (λ (w : Word). bit w i) ((agrees c c_in).memory e);
+  flags = λ c c_in e. ap (λ (w : Word). bit w 0) ((agrees c c_in).flag e);
 })
