@@ -18,12 +18,14 @@ use Rattle.cif_defs.specs.declared.raw_module.Raw.{Raw}
 use Rattle.cif_defs.proofs.Noninterference.{noninterference}
 use Rattle.cif_nets.proofs.Wired.{wired}
 use Rattle.cif_json.specs.Answers.{ComesTo}
-use Rattle.cif_desk.specs.Commands.{Command, check, eval, run, net_word, stim_word}
+use Rattle.cif_desk.specs.Commands.{Command, check, eval, augstim, run, net_word, stim_word}
 use Rattle.cif_desk.specs.Refusals.{Refusal}
+use Rattle.cif_stimulus.specs.StimulusText.{stimulus_text}
+use Rattle.cif_augment.specs.Stimuli.{augmented}
 use Rattle.cif_script.specs.Scripts.{ScriptData}
 use Rattle.cif_run.specs.Runs.{ToldData, IsRun, run_text_of}
 use Rattle.cif_run.specs.declared.size.RunSize.{RunSize}
-use Rattle.cif_desk.specs.Permitted.{Permits, HoldsNetlist, HoldsStimulus, HoldsScript, RefusesNetlist, NetlistTold, NetlistRefused, StimulusTold, StimulusRefused, ScriptTold, ScriptRefused, check_text, text, netlist_refused, checked, stimulus_refused, evaluated, script_refused, ran, IsAllowed, IsDue, netlist_word, stimulus_word, sessions_word}
+use Rattle.cif_desk.specs.Permitted.{Permits, HoldsNetlist, HoldsStimulus, HoldsScript, RefusesNetlist, NetlistTold, NetlistRefused, StimulusTold, StimulusRefused, ScriptTold, ScriptRefused, check_text, text, netlist_refused, checked, stimulus_refused, evaluated, augmented_stimulus, script_refused, ran, IsAllowed, IsDue, netlist_word, stimulus_word, sessions_word}
 use Rattle.cif_desk.specs.Ends.{WritesOut, WritesApart}
 use Rattle.cif_desk.specs.Showing.{ShowsApart, RunsApart, text_showing}
 use Rattle.cif_desk.proofs.RunLaws.{runs_apart}
@@ -88,6 +90,16 @@ out_at_file P fault name told asked old new (Unread line) h e = out_nothing told
 out_at_file P fault name told asked old new Unwritten h e = absurd h
 out_at_file P fault name told asked old new NoMemory h e = out_nothing told asked 5 old new (omega arith) e
 
+-- a text that was made whole was written, or a beginning of it
+out_of_text : {A : Type 0} (told : Option Files) (asked : Option Command) (bytes : List ℕ) (fault : Type 0) (old new : Option (List ℕ)) (r : Result A Stop) → IsAllowed told asked (text bytes) → OnOk r (Appends old new bytes) → IfErr r (StopsWriting fault old new bytes)
+    → IfErr r (λ stop. stop ≡ Unwritten) → WritesOut told asked (end_status r) old new
+out_of_text told asked bytes fault old new (Ok x) allowed ok stops is = out_whole told asked bytes old new allowed ok
+out_of_text told asked bytes fault old new (Err Usage) allowed ok stops is = absurd stops
+out_of_text told asked bytes fault old new (Err (Refused line)) allowed ok stops is = absurd stops
+out_of_text told asked bytes fault old new (Err (Unread line)) allowed ok stops is = absurd stops
+out_of_text told asked bytes fault old new (Err Unwritten) allowed ok stops is = out_broken told asked bytes old new allowed stops.1
+out_of_text told asked bytes fault old new (Err NoMemory) allowed ok stops is = absurd (cc)
+
 -- ---- commands
 
 module _ (told : Option Files) (net : List ℕ) (raw : Raw) (netlist : NetlistTold told net raw) where
@@ -96,12 +108,7 @@ module _ (told : Option Files) (net : List ℕ) (raw : Raw) (netlist : NetlistTo
 
   -- the text of `check` was written, or a beginning of it
   pub out_of_check : {A : Type 0} (bytes : List ℕ) (fault : Type 0) (old new : Option (List ℕ)) (r : Result A Stop) → bytes ≡ check_text (netlist_of raw) → OnOk r (Appends old new bytes) → IfErr r (StopsWriting fault old new bytes) → IfErr r (λ stop. stop ≡ Unwritten) → WritesOut told (Some (check net)) (end_status r) old new
-  out_of_check bytes fault old new (Ok x) e ok stops is = out_whole told (Some (check net)) bytes old new (check_allowed bytes e) ok
-  out_of_check bytes fault old new (Err Usage) e ok stops is = absurd stops
-  out_of_check bytes fault old new (Err (Refused line)) e ok stops is = absurd stops
-  out_of_check bytes fault old new (Err (Unread line)) e ok stops is = absurd stops
-  out_of_check bytes fault old new (Err Unwritten) e ok stops is = out_broken told (Some (check net)) bytes old new (check_allowed bytes e) stops.1
-  out_of_check bytes fault old new (Err NoMemory) e ok stops is = absurd (cc)
+  out_of_check bytes fault old new r e ok stops is = out_of_text told (Some (check net)) bytes fault old new r (check_allowed bytes e) ok stops is
 
   pub eval_allowed : (stim : List ℕ) (s : Stimulus) → StimulusTold told stim raw s → IsAllowed told (Some (eval net stim)) (text (eval_text (netlist_of raw) s))
   eval_allowed stim s stimulus = λ files t. evaluated net stim raw s (netlist.holds files t) (stimulus.holds files t)
@@ -128,12 +135,18 @@ module _ (told : Option Files) (net : List ℕ) (raw : Raw) (netlist : NetlistTo
   -- the text of `run` was written, or a beginning of it
   pub out_of_run : {A : Type 0} (stim sessions : List ℕ) (size : RunSize) (s : Stimulus) (script : ScriptData) (t : ToldData) (bytes : List ℕ) (fault : Type 0) (old new : Option (List ℕ)) (r : Result A Stop) → StimulusTold told stim raw s → ScriptTold told sessions raw script → IsRun (netlist_of raw) s script size t → bytes ≡ run_text_of script t
       → OnOk r (Appends old new bytes) → IfErr r (StopsWriting fault old new bytes) → IfErr r (λ stop. stop ≡ Unwritten) → WritesOut told (Some (run net stim sessions size)) (end_status r) old new
-  out_of_run stim sessions size s script t bytes fault old new (Ok x) stimulus held is_run e ok stops is = out_whole told (Some (run net stim sessions size)) bytes old new (run_allowed stim sessions size s script t bytes stimulus held is_run e) ok
-  out_of_run stim sessions size s script t bytes fault old new (Err Usage) stimulus held is_run e ok stops is = absurd stops
-  out_of_run stim sessions size s script t bytes fault old new (Err (Refused line)) stimulus held is_run e ok stops is = absurd stops
-  out_of_run stim sessions size s script t bytes fault old new (Err (Unread line)) stimulus held is_run e ok stops is = absurd stops
-  out_of_run stim sessions size s script t bytes fault old new (Err Unwritten) stimulus held is_run e ok stops is = out_broken told (Some (run net stim sessions size)) bytes old new (run_allowed stim sessions size s script t bytes stimulus held is_run e) stops.1
-  out_of_run stim sessions size s script t bytes fault old new (Err NoMemory) stimulus held is_run e ok stops is = absurd (cc)
+  out_of_run stim sessions size s script t bytes fault old new r stimulus held is_run e ok stops is =
+      out_of_text told (Some (run net stim sessions size)) bytes fault old new r (run_allowed stim sessions size s script t bytes stimulus held is_run e) ok stops is
+
+  augstim_allowed : (stim : List ℕ) (s other : Stimulus) (bytes : List ℕ) → StimulusTold told stim raw s → other ≡ augmented (netlist_of raw) s → bytes ≡ stimulus_text other → IsAllowed told (Some (augstim net stim)) (text bytes)
+  augstim_allowed stim s other bytes stimulus is e =
+      allowed_along told (Some (augstim net stim)) bytes (stimulus_text (augmented (netlist_of raw) s)) (e ∙ ap stimulus_text is) (λ files t. augmented_stimulus net stim raw s (netlist.holds files t) (stimulus.holds files t))
+
+  -- the text of `augstim` was written, or a beginning of it
+  pub out_of_augstim : {A : Type 0} (stim : List ℕ) (s other : Stimulus) (bytes : List ℕ) (fault : Type 0) (old new : Option (List ℕ)) (r : Result A Stop) → StimulusTold told stim raw s → other ≡ augmented (netlist_of raw) s → bytes ≡ stimulus_text other
+      → OnOk r (Appends old new bytes) → IfErr r (StopsWriting fault old new bytes) → IfErr r (λ stop. stop ≡ Unwritten) → WritesOut told (Some (augstim net stim)) (end_status r) old new
+  out_of_augstim stim s other bytes fault old new r stimulus is e ok stops only =
+      out_of_text told (Some (augstim net stim)) bytes fault old new r (augstim_allowed stim s other bytes stimulus is e) ok stops only
 
 -- a run of a case is one of its netlist and stimulus
 pub run_of_case : (raw : Raw) (order : List ℕ) (s : Stimulus) (c : CaseOf) (script : ScriptData) (size : RunSize) (t : ToldData) → c ≡ record { raw = raw; order = order; stimulus = s } → IsRun (net_of c) c.stimulus script size t → IsRun (netlist_of raw) s script size t
@@ -296,10 +309,14 @@ apart told net stim raw order old new (Ok x) netlist levelled w = λ files raw2 
     let permitted : Permits files (eval net stim) (text bytes) = subst R told_bytes (w.whole refl files t) in
     shows_apart (netlist_of raw2) order s bytes (wired raw2 h.passes.accepted) (subst Q same levelled) (text_of_eval files net stim bytes raw2 s h k permitted)
 
--- `check` shows nothing of a run
+-- `check` and `augstim` show nothing of a run
 pub check_apart : {A : Type 0} (told : Option Files) (net : List ℕ) (old new : Option (List ℕ)) (r : Result A Stop) → OnOk r (WritesApart told (Some (check net)) old new)
 check_apart told net old new (Err e) = tt
 check_apart told net old new (Ok x) = tt
+
+pub augstim_apart : {A : Type 0} (told : Option Files) (net stim : List ℕ) (old new : Option (List ℕ)) (r : Result A Stop) → OnOk r (WritesApart told (Some (augstim net stim)) old new)
+augstim_apart told net stim old new (Err e) = tt
+augstim_apart told net stim old new (Ok x) = tt
 
 -- a run that ends well
 pub run_apart : {A : Type 0} (told : Option Files) (net stim sessions : List ℕ) (size : RunSize) (raw : Raw) (order : List ℕ) (s : Stimulus) (script : ScriptData) (t : ToldData) (written : List ℕ) (old new : Option (List ℕ)) (r : Result A Stop) → NetlistTold told net raw → IsLevelled (netlist_of raw) order → StimulusTold told stim raw s → ScriptTold told sessions raw script

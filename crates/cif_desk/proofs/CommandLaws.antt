@@ -3,11 +3,12 @@ use Rattle.std.specs.Prelude.{ℕ, ◌≡◌, Bool, true, false, List, [], ◌�
 use Rattle.std.proofs.Common.{ap, ◌∙◌}
 use Rattle.std.proofs.lemmas.Slice.Eq.{bytes_eq-Decides}
 use Rattle.cif_run.specs.declared.size.RunSize.{RunSize}
-use Rattle.cif_desk.specs.Commands.{Command, check, eval, run, size_of, command_of, command_if, may_wait}
+use Rattle.cif_desk.specs.Commands.{Command, check, eval, augstim, run, size_of, command_of, command_if, may_wait}
 
 abbrev is_run : Command → Bool
 is_run (check net) = false
 is_run (eval net stim) = false
+is_run (augstim net stim) = false
 is_run (run net stim sessions size) = true
 
 of_verb : (verb word : List ℕ) (rest : List (List ℕ)) → bytes_eq verb word ≡ true → may_wait (verb ∷ rest) ≡ may_wait (word ∷ rest)
@@ -19,6 +20,12 @@ if_fits false a c e = absurd (cc)
 
 by_verb : (verb word : List ℕ) (rest : List (List ℕ)) (a c : Command) → command_if (bytes_eq verb word) a ≡ Some c → may_wait (word ∷ rest) ≡ is_run a → may_wait (verb ∷ rest) ≡ is_run c
 by_verb verb word rest a c e h = let f = if_fits (bytes_eq verb word) a c e in of_verb verb word rest f.0 ∙ h ∙ ap is_run f.1
+
+-- the first of two verbs that fits
+by_first : (verb one other : List ℕ) (rest : List (List ℕ)) (a b c : Command) (fits : Bool) → bytes_eq verb one ≡ fits → (if fits then Some a else command_if (bytes_eq verb other) b) ≡ Some c
+    → may_wait (one ∷ rest) ≡ is_run a → may_wait (other ∷ rest) ≡ is_run b → may_wait (verb ∷ rest) ≡ is_run c
+by_first verb one other rest a b c true is e h k = of_verb verb one rest is ∙ h ∙ (let same : a ≡ c = cc in ap is_run same)
+by_first verb one other rest a b c false is e h k = by_verb verb other rest b c e k
 
 if_run : (fits : Bool) (net stim sessions : List ℕ) (size : Option RunSize) (c : Command) → (if fits then option_map (run net stim sessions) size else None) ≡ Some c → (fits ≡ true) × (true ≡ is_run c)
 if_run false net stim sessions size c e = absurd (cc)
@@ -34,7 +41,8 @@ unfolding command_of
 command_waits [] c e = absurd (cc)
 command_waits (verb ∷ []) c e = absurd (cc)
 command_waits (verb ∷ net ∷ []) c e = by_verb verb (codes "check") (net ∷ []) (check net) c e refl
-command_waits (verb ∷ net ∷ stim ∷ []) c e = by_verb verb (codes "eval") (net ∷ stim ∷ []) (eval net stim) c e refl
+command_waits (verb ∷ net ∷ stim ∷ []) c e =
+    by_first verb (codes "eval") (codes "augstim") (net ∷ stim ∷ []) (eval net stim) (augstim net stim) c (bytes_eq verb (codes "eval")) refl e refl refl
 command_waits (verb ∷ net ∷ stim ∷ x ∷ []) c e = absurd (cc)
 command_waits (verb ∷ net ∷ stim ∷ x ∷ y ∷ []) c e = absurd (cc)
 command_waits (verb ∷ net ∷ stim ∷ x ∷ y ∷ z ∷ []) c e = absurd (cc)
@@ -46,9 +54,12 @@ command_waits (verb ∷ net ∷ stim ∷ x ∷ y ∷ z ∷ u ∷ v ∷ rest) c e
 pub never_run : (words : List (List ℕ)) (net stim sessions : List ℕ) (size : RunSize) → may_wait words ≡ false → ¬ (command_of words ≡ Some (run net stim sessions size))
 never_run words net stim sessions size quiet e = let waits = command_waits words (run net stim sessions size) e in absurd (cc)
 
--- `check` and `eval` never wait
+-- the others never wait
 pub never_check : (words : List (List ℕ)) (net : List ℕ) → may_wait words ≡ true → ¬ (command_of words ≡ Some (check net))
 never_check words net live e = let waits = command_waits words (check net) e in absurd (cc)
 
 pub never_eval : (words : List (List ℕ)) (net stim : List ℕ) → may_wait words ≡ true → ¬ (command_of words ≡ Some (eval net stim))
 never_eval words net stim live e = let waits = command_waits words (eval net stim) e in absurd (cc)
+
+pub never_augstim : (words : List (List ℕ)) (net stim : List ℕ) → may_wait words ≡ true → ¬ (command_of words ≡ Some (augstim net stim))
+never_augstim words net stim live e = let waits = command_waits words (augstim net stim) e in absurd (cc)

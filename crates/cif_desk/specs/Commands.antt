@@ -9,6 +9,8 @@ pub data Command : Type 0 where
   check : List ℕ → Command
   -- the output ports of a netlist in every cycle of a stimulus
   eval : List ℕ → List ℕ → Command
+  -- the stimulus for the augmented netlist, from one for a netlist
+  augstim : List ℕ → List ℕ → Command
   -- the transcripts of sessions over a netlist and a stimulus
   run : List ℕ → List ℕ → List ℕ → RunSize → Command
 
@@ -16,12 +18,14 @@ pub data Command : Type 0 where
 abbrev pub net_word : Command → List ℕ
 net_word (check net) = net
 net_word (eval net stim) = net
+net_word (augstim net stim) = net
 net_word (run net stim sessions size) = net
 
 -- the file of the stimulus, where the command has one
 abbrev pub stim_word : Command → Option (List ℕ)
 stim_word (check net) = None
 stim_word (eval net stim) = Some stim
+stim_word (augstim net stim) = Some stim
 stim_word (run net stim sessions size) = Some stim
 
 -- ---- numbers
@@ -44,10 +48,11 @@ size_of workers parts window =
 abbrev pub command_if : Bool → Command → Option Command
 command_if fits command = if fits then Some command else None
 
--- `check NET`, `eval NET STIM` or `run NET STIM SESSIONS WORKERS PARTS WINDOW`; other words fit no form
+-- `check NET`, `eval NET STIM`, `augstim NET STIM` or `run NET STIM SESSIONS WORKERS PARTS WINDOW`; other words fit no form
 unfoldable pub command_of : List (List ℕ) → Option Command
 command_of (verb ∷ net ∷ []) = command_if (bytes_eq verb (codes "check")) (check net)
-command_of (verb ∷ net ∷ stim ∷ []) = command_if (bytes_eq verb (codes "eval")) (eval net stim)
+command_of (verb ∷ net ∷ stim ∷ []) =
+    if bytes_eq verb (codes "eval") then Some (eval net stim) else command_if (bytes_eq verb (codes "augstim")) (augstim net stim)
 command_of (verb ∷ net ∷ stim ∷ sessions ∷ workers ∷ parts ∷ window ∷ []) =
     if bytes_eq verb (codes "run") then option_map (run net stim sessions) (size_of workers parts window) else None
 command_of _ = None

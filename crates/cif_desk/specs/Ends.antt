@@ -7,7 +7,7 @@ use Rattle.cif_defs.specs.Stimulus.{Stimulus}
 use Rattle.cif_defs.specs.Messages.{usage_line, read_fault_line, write_fault_line, memory_line}
 use Rattle.cif_defs.specs.declared.raw_module.Raw.{Raw}
 use Rattle.cif_script.specs.Scripts.{ScriptData}
-use Rattle.cif_desk.specs.Commands.{Command, check, eval, run}
+use Rattle.cif_desk.specs.Commands.{Command, check, eval, augstim, run}
 use Rattle.cif_desk.specs.Refusals.{Refusal, line_of}
 use Rattle.cif_desk.specs.Permitted.{refused, text, IsAllowed, IsDue, HoldsNetlist, HoldsStimulus, HoldsScript}
 use Rattle.cif_desk.specs.Showing.{ShowsApart, RunsApart}
@@ -63,6 +63,7 @@ WritesApart told (Some (check net)) old new = ⊤
 WritesApart told (Some (eval net stim)) old new =
     (files : Files) (raw : Raw) (s : Stimulus) (before bytes : List ℕ) → told ≡ Some files
     → HoldsNetlist files net raw → HoldsStimulus files stim raw s → old ≡ Some before → new ≡ Some (before ++ bytes) → ShowsApart (netlist_of raw) s bytes
+WritesApart told (Some (augstim net stim)) old new = ⊤
 WritesApart told (Some (run net stim sessions size)) old new =
     (files : Files) (raw : Raw) (s : Stimulus) (script : ScriptData) (before bytes : List ℕ) → told ≡ Some files
     → HoldsNetlist files net raw → HoldsStimulus files stim raw s → HoldsScript files sessions raw script

@@ -15,15 +15,16 @@ use Rattle.cif_checks.specs.declared.fault.BuildFault.{BuildFault}
 use Rattle.cif_level.specs.LevelFaults.{HasLeastNameFirst}
 use Rattle.cif_level.specs.declared.fault.LevelFault.TheVariants.{Loop}
 use Rattle.cif_json.specs.Answers.{ComesTo, IsRefused}
-use Rattle.cif_stimulus.specs.StimulusText.{stimulus_read}
+use Rattle.cif_stimulus.specs.StimulusText.{stimulus_read, stimulus_text}
 use Rattle.cif_stimulus.specs.declared.fault.StimFault.{StimFault}
+use Rattle.cif_augment.specs.Stimuli.{augmented}
 use Rattle.cif_script.specs.Scripts.{ScriptData}
 use Rattle.cif_script.specs.ScriptText.{script_of}
 use Rattle.cif_script.specs.declared.fault.ScriptFault.{ScriptFault}
 use Rattle.cif_run.specs.Runs.{ToldData, IsRun, run_text_of}
 use Rattle.cif_run.specs.declared.size.RunSize.{RunSize}
 use Rattle.cif_json.specs.declared.fault.JsonFault.{JsonFault}
-use Rattle.cif_desk.specs.Commands.{Command, check, eval, run, net_word, stim_word}
+use Rattle.cif_desk.specs.Commands.{Command, check, eval, augstim, run, net_word, stim_word}
 use Rattle.cif_desk.specs.Refusals.{Refusal, joined, too_long, json_refusal, build_refusal, loop_refusal, stim_refusal, script_refusal}
 
 -- ---- files
@@ -136,6 +137,8 @@ pub data Permits (files : Files) : Command → Answer → Type 0 where
   checked : (net : List ℕ) (raw : Raw) → HoldsNetlist files net raw → Permits files (check net) (text (check_text (netlist_of raw)))
   stimulus_refused : (c : Command) (stim : List ℕ) (raw : Raw) (refusal : Refusal) → stim_word c ≡ Some stim → HoldsNetlist files (net_word c) raw → RefusesStimulus files stim raw refusal → Permits files c (refused refusal)
   evaluated : (net stim : List ℕ) (raw : Raw) (s : Stimulus) → HoldsNetlist files net raw → HoldsStimulus files stim raw s → Permits files (eval net stim) (text (eval_text (netlist_of raw) s))
+  augmented_stimulus : (net stim : List ℕ) (raw : Raw) (s : Stimulus) → HoldsNetlist files net raw → HoldsStimulus files stim raw s
+      → Permits files (augstim net stim) (text (stimulus_text (augmented (netlist_of raw) s)))
   script_refused : (net stim sessions : List ℕ) (size : RunSize) (raw : Raw) (s : Stimulus) (refusal : Refusal) → HoldsNetlist files net raw → HoldsStimulus files stim raw s → RefusesScript files sessions raw refusal
       → Permits files (run net stim sessions size) (refused refusal)
   ran : (net stim sessions : List ℕ) (size : RunSize) (raw : Raw) (s : Stimulus) (script : ScriptData) (told : ToldData) → HoldsNetlist files net raw → HoldsStimulus files stim raw s → HoldsScript files sessions raw script

@@ -22,6 +22,8 @@ pub(crate) enum Command<'a> {
     Check { net: &'a str },
     /// The output ports of a netlist in every cycle of a stimulus.
     Eval { net: &'a str, stim: &'a str },
+    /// The stimulus for the augmented netlist, from one for a netlist.
+    AugStim { net: &'a str, stim: &'a str },
     /// The transcripts of sessions over a netlist and a stimulus.
     Run { files: RunFiles<'a>, size: RunSize },
 }
@@ -59,6 +61,10 @@ pub(crate) fn asked(words: &[String]) -> Option<Command<'_>>
     match words {
         [verb, net] if verb.as_str() == "check" => Some(Command::Check { net: net.as_str() }),
         [verb, net, stim] if verb.as_str() == "eval" => Some(Command::Eval {
+            net: net.as_str(),
+            stim: stim.as_str(),
+        }),
+        [verb, net, stim] if verb.as_str() == "augstim" => Some(Command::AugStim {
             net: net.as_str(),
             stim: stim.as_str(),
         }),

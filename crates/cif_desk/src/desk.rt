@@ -2,7 +2,7 @@
 ghost use Rattle.std.specs.Prelude.{◌≡◌, false, map, string_bytes, Some, None, IfOk, IfErr, OnOk, Err};
 ghost use Rattle.cif_io.specs.Outside.{Rose};
 ghost use Rattle.cif_defs.specs.Accepted.{netlist_of};
-ghost use Rattle.cif_desk.specs.Commands.{check as checks, eval as evaluates, may_wait};
+ghost use Rattle.cif_desk.specs.Commands.{augstim as augments, check as checks, eval as evaluates, may_wait};
 ghost use Rattle.cif_desk.specs.CommandView.{asked_by};
 ghost use Rattle.cif_desk.specs.Permitted.{check_text as text_of_check};
 ghost use Rattle.cif_desk.specs.Ends.{WritesOut, WritesApart};
@@ -14,9 +14,11 @@ use crate::evaluation::{write, write_cycles};
 use crate::files::{netlist_file, stimulus_file};
 use crate::stop::Stop;
 use crate::text::{Piece, push_all};
+use cif_augment::augment_stimulus;
 use cif_cells::Netlist;
 use cif_io::{Sink, Store, write_all};
 use cif_seq::Case;
+use cif_stim_write::write_stimulus;
 use std::alloc::{AllocError, Global};
 use std::sync::Arc;
 
@@ -79,6 +81,27 @@ fn eval<S: Store, W: Sink>(
     write_cycles(alloc, &case, out)
 }
 
+/// `augstim NET STIM`. The text is made whole before its first byte is written.
+fn augstim<S: Store, W: Sink>(
+    alloc: Global,
+    net: &str,
+    stim: &str,
+    store: &mut S,
+    out: &mut W,
+) -> Result<(), Stop>
+    ensures out { WritesOut (S.told store.old) (Some (augments net.now stim.now)) (end_status result)
+        (W.taken out.old) (W.taken out.new) }
+    ensures cause { IfErr result (HasCause (S.told store.old) (Some (augments net.now stim.now))
+        (S.last_failed store.new) (Rose (S.faults store.old) (S.faults store.new))
+        (Rose (W.faults out.old) (W.faults out.new))) }
+{
+    let accepted = netlist_file(alloc, net, store)?;
+    let stimulus = stimulus_file(alloc, stim, &accepted.netlist, store)?;
+    let augmented = augment_stimulus(alloc, &accepted.netlist, &stimulus)?;
+    let text = write_stimulus(alloc, &augmented)?;
+    write(out, &text)
+}
+
 /// Does what words ask that never wait, and writes its text to out.
 fn answer<S: Store, W: Sink>(
     alloc: Global,
@@ -99,6 +122,7 @@ fn answer<S: Store, W: Sink>(
     match asked(words) {
         Some(Command::Check { net }) => check(alloc, net, store, out),
         Some(Command::Eval { net, stim }) => eval(alloc, net, stim, store, out),
+        Some(Command::AugStim { net, stim }) => augstim(alloc, net, stim, store, out),
         Some(Command::Run { .. }) => unreachable!(),
         None => Err(Stop::Usage),
     }

@@ -71,6 +71,7 @@ fn answer_live<S: Store, W: Sink, G: Gate + Sync, R: Threads + Wait + Sync>(
         Some(Command::Run { files, size }) => run(rt, alloc, files, size, store, out, gate),
         Some(Command::Check { .. }) => unreachable!(),
         Some(Command::Eval { .. }) => unreachable!(),
+        Some(Command::AugStim { .. }) => unreachable!(),
         None => Err(Stop::Usage),
     }
 }

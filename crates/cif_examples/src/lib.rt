@@ -5,6 +5,8 @@
 #[cfg(test)]
 mod accepted;
 #[cfg(test)]
+mod augmented;
+#[cfg(test)]
 mod cells;
 #[cfg(test)]
 mod counter;

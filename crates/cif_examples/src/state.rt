@@ -28,7 +28,7 @@ enable-tainted, equal words | - | cellift-stimulus 1\ncycles 2\nreg r 01\n@ 0\ns
 enable-tainted | - | cellift-stimulus 1\ncycles 2\nreg r 01\n@ 0\nset d 11\nset en 0 1\n | cycle 0\nq 01/00\ncycle 1\nq 01/10\ndone 2
 "#;
 
-const ASYNCHRONOUS: &str = r#"{"modules":{"m":{"ports":{
+pub const ASYNCHRONOUS: &str = r#"{"modules":{"m":{"ports":{
  "clk":{"direction":"input","bits":[2]},
  "d":{"direction":"input","bits":[3,4]},
  "q":{"direction":"output","bits":[6,7]},
@@ -36,7 +36,7 @@ const ASYNCHRONOUS: &str = r#"{"modules":{"m":{"ports":{
 "cells":{"r":{"type":"$adff","parameters":{"CLK_POLARITY":"1","ARST_POLARITY":"1","ARST_VALUE":"10","WIDTH":"10"},
  "connections":{"CLK":[2],"D":[3,4],"ARST":[5],"Q":[6,7]}}}}}}"#;
 
-const ASYNCHRONOUS_ROWS: &str = r#"
+pub const ASYNCHRONOUS_ROWS: &str = r#"
 async-reset | - | cellift-stimulus 1\ncycles 5\n@ 0\nset d 11\n@ 1\nset rst 1\n@ 2\nset rst 0 1\n@ 3\nset rst 0\n@ 4\nset rst 0 1\n | cycle 0\nq 00/00\ncycle 1\nq 10/00\ncycle 2\nq 10/00\ncycle 3\nq 11/01\ncycle 4\nq 11/01\ndone 5
 "#;
 

@@ -1,9 +1,9 @@
 use Rattle.std.proofs.Common.{◌≡◌, ◌∙◌, Option, Some, OnOk, map, string_bytes, sym, ap, subst, refl, arith, Global}
-use Rattle.cif_desk.specs.Commands.{Command as CommandData, check, eval}
+use Rattle.cif_desk.specs.Commands.{Command as CommandData, check, eval, augstim}
 use Rattle.cif_desk.specs.CommandView.{command_seen, run_seen, asked_by}
 use Rattle.cif_desk.specs.Ends.{WritesApart}
 use Rattle.cif_desk.specs.declared.command.Command.{Command}
-use Rattle.cif_desk.proofs.AnswerLaws.{out_nothing, check_apart}
+use Rattle.cif_desk.proofs.AnswerLaws.{out_nothing, check_apart, augstim_apart}
 use Rattle.cif_desk.proofs.CommandLaws.{never_run}
 use Rattle.cif_desk.proofs.desk.answer.Goals as goal
 
@@ -20,6 +20,13 @@ returns-in-Some-Eval-clause-noninterference g c =
     sym c.in-Some-Eval.ensures.value ∙ ap (λ (x : Command). Some (command_seen x)) c.in-Some-Eval.field-0-is in
     let P : Option CommandData → Type 0 = λ asked. OnOk c.eval.result (WritesApart (g.S.Store.told c.args.store.now) asked (g.W.Sink.taken c.args.out.now) (g.W.Sink.taken c.eval.new.out)) in
     subst P (sym is) c.eval.ensures.noninterference
+
+pub returns-in-Some-AugStim-clause-noninterference : goal.returns-in-Some-AugStim-clause-noninterference
+returns-in-Some-AugStim-clause-noninterference g c =
+    let is : asked_by c.args.words.now ≡ Some (augstim c.in-Some-AugStim.net.now c.in-Some-AugStim.stim.now) =
+    sym c.in-Some-AugStim.ensures.value ∙ ap (λ (x : Command). Some (command_seen x)) c.in-Some-AugStim.field-0-is in
+    let P : Option CommandData → Type 0 = λ asked. OnOk c.augstim.result (WritesApart (g.S.Store.told c.args.store.now) asked (g.W.Sink.taken c.args.out.now) (g.W.Sink.taken c.augstim.new.out)) in
+    subst P (sym is) (augstim_apart (g.S.Store.told c.args.store.now) c.in-Some-AugStim.net.now c.in-Some-AugStim.stim.now (g.W.Sink.taken c.args.out.now) (g.W.Sink.taken c.augstim.new.out) c.augstim.result)
 
 pub unreachable-requires : goal.unreachable-requires
 unreachable-requires g c =
