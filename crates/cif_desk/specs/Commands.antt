@@ -48,11 +48,14 @@ size_of workers parts window =
 abbrev pub command_if : Bool → Command → Option Command
 command_if fits command = if fits then Some command else None
 
+abbrev pub stimulus_command : List ℕ → List ℕ → List ℕ → Option Command
+stimulus_command verb net stim =
+    if bytes_eq verb (codes "eval") then Some (eval net stim) else command_if (bytes_eq verb (codes "augstim")) (augstim net stim)
+
 -- `check NET`, `eval NET STIM`, `augstim NET STIM` or `run NET STIM SESSIONS WORKERS PARTS WINDOW`; other words fit no form
 unfoldable pub command_of : List (List ℕ) → Option Command
 command_of (verb ∷ net ∷ []) = command_if (bytes_eq verb (codes "check")) (check net)
-command_of (verb ∷ net ∷ stim ∷ []) =
-    if bytes_eq verb (codes "eval") then Some (eval net stim) else command_if (bytes_eq verb (codes "augstim")) (augstim net stim)
+command_of (verb ∷ net ∷ stim ∷ []) = stimulus_command verb net stim
 command_of (verb ∷ net ∷ stim ∷ sessions ∷ workers ∷ parts ∷ window ∷ []) =
     if bytes_eq verb (codes "run") then option_map (run net stim sessions) (size_of workers parts window) else None
 command_of _ = None

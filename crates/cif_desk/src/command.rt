@@ -1,7 +1,7 @@
 // What words ask for.
 ghost use Rattle.std.specs.Prelude.{◌≡◌, map, option_map, string_bytes, IfSome};
 ghost use Rattle.cif_run.specs.Runs.{IsSize};
-ghost use Rattle.cif_desk.specs.Commands.{command_of, may_wait, number_within as number_of, size_of};
+ghost use Rattle.cif_desk.specs.Commands.{command_of, may_wait, number_within as number_of, size_of, stimulus_command};
 ghost use Rattle.cif_desk.specs.CommandView.{command_seen, HasSize};
 
 use cif_run::RunSize;
@@ -52,6 +52,20 @@ fn size_within(workers: &str, parts: &str, window: &str) -> Option<RunSize>
     })
 }
 
+/// What is asked for by a verb, a netlist and a stimulus.
+fn with_stimulus<'a>(verb: &str, net: &'a str, stim: &'a str) -> Option<Command<'a>>
+    ensures value { option_map command_seen result ≡ stimulus_command verb.now net.now stim.now }
+    ensures within { IfSome result HasSize }
+{
+    if verb == "eval" {
+        Some(Command::Eval { net, stim })
+    } else if verb == "augstim" {
+        Some(Command::AugStim { net, stim })
+    } else {
+        None
+    }
+}
+
 /// What words ask for, where they fit a form.
 #[tactic(auto, unfolding(crate::specs::Commands::command_of))]
 pub(crate) fn asked(words: &[String]) -> Option<Command<'_>>
@@ -60,14 +74,7 @@ pub(crate) fn asked(words: &[String]) -> Option<Command<'_>>
 {
     match words {
         [verb, net] if verb.as_str() == "check" => Some(Command::Check { net: net.as_str() }),
-        [verb, net, stim] if verb.as_str() == "eval" => Some(Command::Eval {
-            net: net.as_str(),
-            stim: stim.as_str(),
-        }),
-        [verb, net, stim] if verb.as_str() == "augstim" => Some(Command::AugStim {
-            net: net.as_str(),
-            stim: stim.as_str(),
-        }),
+        [verb, net, stim] => with_stimulus(verb.as_str(), net.as_str(), stim.as_str()),
         [verb, net, stim, sessions, workers, parts, window] if verb.as_str() == "run" => {
             let size = size_within(workers.as_str(), parts.as_str(), window.as_str())?;
             let files = RunFiles {

@@ -96,8 +96,8 @@ fn augstim<S: Store, W: Sink>(
         (Rose (W.faults out.old) (W.faults out.new))) }
 {
     let accepted = netlist_file(alloc, net, store)?;
-    let stimulus = stimulus_file(alloc, stim, &accepted.netlist, store)?;
-    let augmented = augment_stimulus(alloc, &accepted.netlist, &stimulus)?;
+    let original = stimulus_file(alloc, stim, &accepted.netlist, store)?;
+    let augmented = augment_stimulus(alloc, &accepted.netlist, &original)?;
     let text = write_stimulus(alloc, &augmented)?;
     write(out, &text)
 }
