@@ -1,0 +1,4 @@
+mod Texts
+mod Lists
+mod Cells
+mod Written

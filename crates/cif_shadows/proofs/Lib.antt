@@ -1,0 +1,4 @@
+pub mod Targets
+pub mod SetLaws
+pub mod BarLaws
+pub mod OperandLaws

@@ -1,0 +1,17 @@
+pub mod Lists
+pub mod OperandBits
+pub mod BitRows
+pub mod SumRows
+pub mod ChoiceRows
+pub mod Dependent
+pub mod TaintedBits
+pub mod TaintedStores
+pub mod TaintedMemory
+pub mod TaintedPlaces
+pub mod ShownLaw
+pub mod StoredLaw
+pub mod SupportLaw
+pub mod Ranks
+pub mod Trails
+pub mod OneChain
+pub mod CounterChain

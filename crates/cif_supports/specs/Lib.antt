@@ -1,0 +1,4 @@
+pub mod Places
+pub mod Supports
+pub mod Dependence
+pub mod Chains
